@@ -1,0 +1,5 @@
+pub mod Rows
+pub mod Encodings
+pub mod Standing
+pub mod Cuts
+pub mod Sums

@@ -1,0 +1,4 @@
+pub mod Table
+pub mod States
+pub mod Scalars
+pub mod Measures
