@@ -1,90 +1,71 @@
 // The talking panel's program: it reads commands from standard input, one a line, and prints one line
 // for each call. docs/PANEL.md has the commands and what they print.
-use std::alloc::AllocError;
-use std::alloc::Global;
+mod input;
+mod tables;
+mod text_calls;
+mod tree_calls;
+mod words;
+
+use crate::input::Input;
+use crate::tables::Builder;
+use crate::text_calls::answer_text;
+use crate::tree_calls::serve_tree;
+use crate::words::*;
 use std::error::AnyError;
-use std::io::BufRead;
-use std::io::BufReader;
-use std::str::SplitWhitespace;
-use unicode::measure::measure_text;
-use unicode::usv::Usv;
-use unicode::usv::UsvMeasure;
-use unicode::utf16::Utf16;
-use unicode::utf16::Utf16Measure;
+use tree::node::NodeId;
+use tree::tree::Tree;
 
-// The value of a hexadecimal digit.
-fn digit(byte: u8) -> Option<u8> {
-    match byte {
-        b'0'..=b'9' => Some(byte - b'0'),
-        b'a'..=b'f' => Some(byte - b'a' + 10),
-        b'A'..=b'F' => Some(byte - b'A' + 10),
-        _ => None,
+// `judge ROOT`: what judging the tables finds; then, where they are sound, the tree calls that follow.
+fn answer_judge(rt: &LibcRuntime, input: &mut Input, tables: &Builder, root: NodeId) -> Result<(), AnyError> {
+    let (tree, refusal) = Tree::judge(tables.lend(), root);
+    match refusal {
+        None => {
+            println!(rt, "= sound")?;
+            serve_tree(rt, input, &tree)
+        }
+        Some(refusal) => print_refusal(rt, refusal),
     }
 }
 
-// The bytes that hexadecimal digits spell; nothing where some are missing or are none.
-fn unhex(heap: Global, text: &str) -> Result<Option<Vec<u8>>, AllocError> {
-    let mut bytes = Vec::new(heap);
-    for pair in text.as_bytes().chunks(2) {
-        let [high, low] = pair else {
-            return Ok(None);
-        };
-        let (Some(h), Some(l)) = (digit(*high), digit(*low)) else {
-            return Ok(None);
-        };
-        bytes.push((h & 0x0F) * 0x10 + (l & 0x0F))?;
-    }
-    Ok(Some(bytes))
-}
-
-// What a line says: what stands before a comment, where it is text.
-fn command(line: &[u8]) -> Option<&str> {
-    let Ok(text) = std::str::from_utf8(line) else {
-        return None;
+// The commands but `judge`, while there is no tree.
+fn answer(rt: &LibcRuntime, tables: &mut Builder, line: &[u8]) -> Outcome {
+    let Some(mut words) = Words::of(line) else {
+        return Ok(Some(NO_TEXT));
     };
-    match text.split_once('#') {
-        Some((before, _)) => Some(before),
-        None => Some(text),
-    }
-}
-
-// `measure HEX`: what a text measures in scalars and in UTF-16 code units.
-fn answer_measure(rt: &LibcRuntime, mut words: SplitWhitespace<'_>) -> Result<(), AnyError> {
-    let Some(bytes) = unhex(rt.alloc(), words.next().unwrap_or(""))? else {
-        println!(rt, "? not bytes in hexadecimal digits")?;
-        return Ok(());
-    };
-    if words.next().is_some() {
-        println!(rt, "? more words than measure takes")?;
-        return Ok(());
-    }
-    let text = bytes.as_slice();
-    match (measure_text::<Usv>(text), measure_text::<Utf16>(text)) {
-        (Ok(usv), Ok(utf16)) => println!(rt, "= {usv} {utf16}")?,
-        _ => println!(rt, "= ill-formed")?,
-    }
-    Ok(())
-}
-
-// Answers one line: nothing for a blank one.
-fn answer(rt: &LibcRuntime, line: &[u8]) -> Result<(), AnyError> {
-    let Some(text) = command(line) else {
-        println!(rt, "? not a line of text")?;
-        return Ok(());
-    };
-    let mut words = text.split_whitespace();
     match words.next() {
-        None => {}
-        Some("measure") => answer_measure(rt, words)?,
-        Some(word) => println!(rt, "? unknown command: {word}")?,
+        Some("row") => tables.add_row(words),
+        Some("child") => tables.add_children(rt.alloc(), words),
+        Some("text") => tables.add_text(rt.alloc(), words),
+        Some("length") => tables.add_lengths(rt.alloc(), words),
+        Some("word") => tables.add_words(rt.alloc(), words),
+        Some("clear") => tables.clear(words),
+        Some("parent_and_index" | "path" | "first" | "last" | "next" | "previous") => Ok(Some(NO_TREE)),
+        verb => answer_text(rt, verb, words),
     }
-    Ok(())
+}
+
+// The root that a `judge` command names; nothing where the line is another command.
+fn judged_root(line: &[u8]) -> Option<Option<NodeId>> {
+    let mut words = Words::of(line)?;
+    if words.next() != Some("judge") {
+        return None;
+    }
+    let root = words.row();
+    Some(if words.are_done() { root } else { None })
 }
 
 fn main(rt: LibcRuntime) -> Result<(), AnyError> {
-    for line in BufReader::new(rt.stdin()).split(rt.alloc(), b'\n') {
-        let bytes = line?;
-        answer(&rt, bytes.as_slice())?;
+    let mut input = Input::new(&rt);
+    let mut tables = Builder::new(rt.alloc());
+    for _ in 0..u64::MAX {
+        if !input.advance()? {
+            break;
+        }
+        match judged_root(input.line()) {
+            Some(Some(root)) => answer_judge(&rt, &mut input, &tables, root)?,
+            Some(None) => println!(rt, "? {NO_NUMBER}")?,
+            None => print_wrong(&rt, answer(&rt, &mut tables, input.line())?)?,
+        }
     }
     Ok(())
 }

@@ -23,7 +23,8 @@ static BLANK: [Row; 1] = [Row {
 }];
 
 impl<'a> Tree<'a> {
-    fn blank() -> Tree<'a>
+    // One row without parent or children, which is the root.
+    pub fn blank() -> Tree<'a>
         ensures { λ r. ⌜ Blank r ⌝ }
     {
         Tree {

@@ -1,5 +1,5 @@
 use Rattle.tree.specs.declared.way.Way.the-variants.{Forward}
-use mathlib.Core.Path.{sym, _∙_}
+use mathlib.Core.Path.{refl, sym, _∙_}
 use native.Mathlib.Omega.{arith}
 use Rattle.tree.specs.Rows.{par}
 use Rattle.tree.specs.Walk.{answers}
@@ -10,6 +10,12 @@ use Rattle.tree.proofs.tree.Tree.is_listed.Needs as need
 pub returns-then-not-includes-2 : need.returns-then-not-includes-2
 returns-then-not-includes-2 g c =
     refuse (λ l. denied (c .includes-2 .result) (c .includes-2 .ensures) (c .if-not-includes-2 .taken) (passed-under (well (c .args .self .now)) Forward (answers (g .F·Filter .answer (c .args .filter .now)) (c .args .self .now .rows .now)) (c .args .base .0) (l .1 .1 .0) (c .args .row .0) (l .1 .1 .1) .1, l .1 .0))
+
+pub returns-then-parent-base : need.returns-then-parent-base
+returns-then-parent-base g c =
+    let base = granted (c .includes .result) (c .includes .ensures) (c .if-not-includes .left) in
+    let row = granted (c .includes-2 .result) (c .includes-2 .ensures) (c .if-not-includes-2 .left) in
+    (λ _. (base, (row .1, c .loop-current .inv .1 (0, (omega arith, c .loop-current .inv .0, c .if-parent-base .taken)))), λ _. refl)
 
 pub returns-then-parent-base-2 : need.returns-then-parent-base-2
 returns-then-parent-base-2 g c =

@@ -5,6 +5,19 @@ use Rattle.tree.proofs.Trees.{well}
 use Rattle.tree.proofs.Rows.{sibling-at, sibling-next, sibling-last, sibling-back, sibling-first}
 use Rattle.tree.proofs.tree.Tree.sibling.Needs as need
 
+pub kid-requires : need.kid-requires
+kid-requires c κs =
+    let less = c .args .self .now .rising (c .args .row .0) (c .pre .above) (c .pre .within) in
+    let h = c .pre .within in
+    record { within = omega arith; has = c .if-index-self .left }
+
+pub kid-requires-in-Backward : need.kid-requires-in-Backward
+kid-requires-in-Backward c κs =
+    let less = c .args .self .now .rising (c .args .row .0) (c .pre .above) (c .pre .within) in
+    let h = c .pre .within in
+    let low = c .args .self .now .indexed (c .args .row .0) (c .pre .above) (c .pre .within) in
+    record { within = omega arith; has = omega arith }
+
 pub returns-then-index-self : need.returns-then-index-self
 returns-then-index-self c = sibling-at (well (c .args .self .now)) (c .args .way) Forward (c .args .row .0) None (c .in-Forward .is) (sibling-last (well (c .args .self .now)) (c .args .row .0) (c .pre .above) (c .pre .within) (c .if-index-self .taken))
 
