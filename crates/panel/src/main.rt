@@ -12,7 +12,7 @@ use crate::text_calls::answer_text;
 use crate::tree_calls::serve_tree;
 use crate::words::*;
 use std::error::AnyError;
-use tree::node::NodeId;
+use rows::node::NodeId;
 use tree::tree::Tree;
 
 // `judge ROOT`: what judging the tables finds; then, where they are sound, the tree calls that follow.

@@ -1,11 +1,11 @@
 // The tables as they are built line by line, before they are judged.
 use crate::words::*;
 use std::alloc::Global;
-use tree::node::NodeId;
-use tree::node::Part;
-use tree::node::Row;
-use tree::node::Tables;
-use tree::node::TreeIndex;
+use rows::node::NodeId;
+use rows::node::Part;
+use rows::node::Row;
+use rows::node::Tables;
+use rows::node::TreeIndex;
 
 #[derive(Drop)]
 pub struct Builder {

@@ -3,13 +3,13 @@ use crate::input::Input;
 use crate::text_calls::answer_text;
 use crate::words::*;
 use std::error::AnyError;
-use tree::filters::FieldFilter;
-use tree::filters::FieldFilterAnswers;
-use tree::filters::Filter;
-use tree::filters::TextFilter;
-use tree::filters::TextFilterAnswers;
-use tree::node::NodeId;
-use tree::refusal::Refusal;
+use rows::filters::FieldFilter;
+use rows::filters::FieldFilterAnswers;
+use rows::filters::Filter;
+use rows::filters::TextFilter;
+use rows::filters::TextFilterAnswers;
+use rows::node::NodeId;
+use rows::refusal::Refusal;
 use tree::tree::Tree;
 
 // What a walk call asks for.

@@ -3,8 +3,8 @@ use std::alloc::AllocError;
 use std::alloc::Global;
 use std::error::AnyError;
 use std::str::SplitWhitespace;
-use tree::node::NodeId;
-use tree::refusal::Refusal;
+use rows::node::NodeId;
+use rows::refusal::Refusal;
 
 // What is wrong with a line; nothing where it was answered.
 pub type Outcome = Result<Option<&'static str>, AnyError>;

@@ -1,4 +1,4 @@
--- Index paths compared. Assumes nothing.
+-- Index paths compared.
 use mathlib.Core.Path.{_≡_, refl, sym, ap, subst, _∙_}
 use mathlib.Core.List.{List, [], _∷_, _++_, append-assoc}
 use mathlib.Core.Bool.{Bool, true, false, cond}
@@ -10,11 +10,12 @@ use lib.ListN.{length, getD, take, drop}
 use Rattle.std.specs.Orderings.{Decides}
 use Rattle.std.proofs.shelf.Lists.{drop-all, drop-more}
 use Rattle.std.proofs.shelf.Tests.{cond-true, cond-false, cases-bool, cases-lt, ltb-true, ltb-false, lt-ltb, le-ltb, eq-eqb, ne-eqb, eqb-true, false≢true, true≢false}
-use Rattle.tree.specs.declared.node.NodeId.{NodeId}
-use Rattle.tree.specs.declared.node.Row.{Row}
-use Rattle.tree.specs.declared.filters.FilterResult.{FilterResult}
+use Rattle.rows.specs.declared.node.NodeId.{NodeId}
+use Rattle.rows.specs.declared.node.Row.{Row}
+use Rattle.rows.specs.declared.filters.FilterResult.{FilterResult}
 use Rattle.tree.specs.declared.way.Way.the-variants.{Forward}
-use Rattle.tree.specs.Rows.{par, Well, Steps, path}
+use Rattle.rows.specs.Rows.{par, Well}
+use Rattle.tree.specs.Subtrees.{Steps, path}
 use Rattle.tree.specs.Walk.{listed, Listed}
 use Rattle.tree.specs.Order.{Less, lessb, Before, Ahead, Apart}
 use Rattle.tree.proofs.Rows.{above}

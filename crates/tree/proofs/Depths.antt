@@ -1,4 +1,4 @@
--- Steps up from a row. Assumes nothing.
+-- Steps up from a row.
 use mathlib.Core.Path.{_≡_, refl, sym, ap, subst, _∙_}
 use mathlib.Core.List.{List, [], _∷_, _++_, append-assoc, append-nil}
 use mathlib.Core.Bool.{Bool, true, false, cond}
@@ -9,38 +9,20 @@ use lib.ListN.{length, take, drop, set}
 use Rattle.std.proofs.shelf.Lists.{drop-set}
 use Rattle.tree.proofs.Rows.{above}
 use Rattle.std.proofs.shelf.Tests.{ne-eqb}
-use Rattle.tree.specs.declared.node.NodeId.{NodeId}
-use Rattle.tree.specs.declared.node.Row.{Row}
-use Rattle.tree.specs.Rows.{par, index, lift, path, Steps, Well}
+use Rattle.rows.specs.declared.node.NodeId.{NodeId}
+use Rattle.rows.specs.declared.node.Row.{Row}
+use Rattle.rows.specs.Rows.{par, index, lift, Well}
+use Rattle.rows.proofs.Lifts.{lift-none, lift-step}
+use Rattle.tree.specs.Subtrees.{path, Steps}
 
 module _ (rs : List Row) where
-  pub lift-top : (n : ℕ) → lift rs n 0 ≡ 0
-  unfolding lift
-  lift-top zero = refl
-  lift-top (suc n) = refl
-
-  pub lift-none : (n r : ℕ) → n ≡ 0 → lift rs n r ≡ r
-  unfolding lift
-  lift-none zero r e = refl
-  lift-none (suc n) r e = absurd (omega arith)
-
-  pub lift-low : (n r : ℕ) → r < 1 → lift rs n r ≡ 0
-  lift-low n r h = let e : r ≡ 0 = omega arith in ap (lift rs n) e ∙ lift-top n
-
-  pub lift-step : (n r : ℕ) → 0 < n → 0 < r → lift rs n r ≡ lift rs (n - 1) (par rs r)
-  unfolding lift
-  lift-step zero r a b = absurd (omega arith)
-  lift-step (suc n) r a b =
-      let e : n ≡ suc n - 1 = omega arith in
-      ap (λ t. cond t 0 (lift rs n (par rs r))) (ne-eqb r 0 (λ z. omega arith)) ∙ ap (λ m. lift rs m (par rs r)) e
-
   -- a row within m steps of row 0 is within m steps of any row above it
   pub steps-few : (n m base r : ℕ) → Steps rs n base r → lift rs m r ≡ 0 → n ≤ m
   steps-few zero m base r s e = omega arith
-  steps-few (suc n) zero base r s e = absurd (omega (arith, s .0, lift-none 0 r refl))
+  steps-few (suc n) zero base r s e = absurd (omega (arith, s .0, lift-none rs 0 r refl))
   steps-few (suc n) (suc m) base r s e =
       let same : suc m - 1 ≡ m = omega arith in
-      let less = steps-few n m base (par rs r) (s .2) (sym (ap (λ k. lift rs k (par rs r)) same) ∙ sym (lift-step (suc m) r (omega arith) (s .0)) ∙ e) in
+      let less = steps-few n m base (par rs r) (s .2) (sym (ap (λ k. lift rs k (par rs r)) same) ∙ sym (lift-step rs (suc m) r (omega arith) (s .0)) ∙ e) in
       omega arith
 
 -- one more place written, from the end on

@@ -6,4 +6,3 @@ pub mod Depths
 pub mod Orders
 pub mod Numbers
 pub mod Compares
-pub mod Judges

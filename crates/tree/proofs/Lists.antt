@@ -1,4 +1,4 @@
--- The list under a base: where a row stands in it, and what is behind. Assumes nothing.
+-- The list under a base: where a row stands in it, and what is behind.
 use mathlib.Core.Path.{_≡_, refl, sym, ap, subst, _∙_}
 use mathlib.Core.List.{List, [], _∷_, _++_, append-assoc, append-nil, reverse}
 use mathlib.Core.Bool.{Bool, true, false, cond}
@@ -11,13 +11,14 @@ use Rattle.std.specs.Joined.{joined}
 use Rattle.std.proofs.shelf.Lists.{reverse-append, reverse-reverse}
 use Rattle.std.specs.Orderings.{Decides}
 use Rattle.std.proofs.shelf.Tests.{eq-eqb, ne-eqb, false≢true}
-use Rattle.tree.specs.declared.node.Row.{Row}
-use Rattle.tree.specs.declared.filters.FilterResult.{FilterResult}
-use Rattle.tree.specs.declared.filters.FilterResult.the-variants.{Include, ExcludeNode, ExcludeSubtree}
-use Rattle.tree.specs.Rows.{par, kids, offspring, side, rest, build, Well, Steps, Under}
+use Rattle.rows.specs.declared.node.Row.{Row}
+use Rattle.rows.specs.declared.filters.FilterResult.{FilterResult}
+use Rattle.rows.specs.declared.filters.FilterResult.the-variants.{Include, ExcludeNode, ExcludeSubtree}
+use Rattle.rows.specs.Rows.{par, Well}
+use Rattle.tree.specs.Subtrees.{kids, offspring, side, rest, build, Steps, Under}
 use Rattle.tree.specs.declared.way.Way.{Way}
 use Rattle.tree.specs.declared.way.Way.the-variants.{Forward, Backward}
-use Rattle.tree.specs.declared.node.NodeId.{NodeId}
+use Rattle.rows.specs.declared.node.NodeId.{NodeId}
 use Rattle.std.specs.declared.option.Option.{Option}
 use Rattle.std.specs.declared.option.Option.the-variants.{Some, None}
 use Rattle.tree.specs.Walk.{by, shown, along, listed, head, ahead, Child, Over, Passed, On, Listed, Follows, Precedes}
@@ -150,15 +151,6 @@ module _ {rs : List Row} {cs : List NodeId} (w : Well rs cs) (d : Way) where
 
     pub on-above : (base r : ℕ) → On rs a base r → base < r
     on-above base r (k, p) = above w base k r (passed-under base k r p)
-
-pub refuse : {P : Type 0} → (P → ⊥) → Decides false P
-refuse h = (λ e. absurd (false≢true e), λ p. absurd (h p))
-
-pub granted : {P : Type 0} (b : Bool) → Decides b P → b ≡ true → P
-granted b d e = d .0 e
-
-pub denied : {P : Type 0} (b : Bool) → Decides b P → b ≡ false → P → ⊥
-denied b d e p = false≢true (sym e ∙ d .1 p)
 
 -- the other way round
 reversed : (f g : ℕ → List ℕ) → ((x : ℕ) → g x ≡ reverse (f x)) → (xs : List ℕ) → joined g (reverse xs) ≡ reverse (joined f xs)

@@ -1,4 +1,4 @@
--- Numbers that are apart and below n are at most n. Assumes nothing.
+-- Numbers that are apart and below n are at most n.
 use mathlib.Core.Path.{_≡_, refl, sym, ap, subst}
 use mathlib.Core.List.{List, [], _∷_, _++_}
 use mathlib.Core.Bool.{Bool, true, false, cond}

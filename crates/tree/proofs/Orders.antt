@@ -1,4 +1,4 @@
--- The list under a base is in document order. Assumes nothing.
+-- The list under a base is in document order.
 use mathlib.Core.Path.{_≡_, refl, sym, ap, subst, _∙_}
 use mathlib.Core.List.{List, [], _∷_, _++_}
 use mathlib.Core.Logic.{_⊎_, inl, inr, ⊎-elim}
@@ -7,11 +7,12 @@ use native.Mathlib.Omega.{arith}
 use lib.ListN.{length, drop}
 use Rattle.std.specs.Joined.{joined}
 use Rattle.std.proofs.shelf.Lists.{drop-all}
-use Rattle.tree.specs.declared.node.NodeId.{NodeId}
-use Rattle.tree.specs.declared.node.Row.{Row}
-use Rattle.tree.specs.declared.filters.FilterResult.{FilterResult}
-use Rattle.tree.specs.declared.filters.FilterResult.the-variants.{Include, ExcludeNode, ExcludeSubtree}
-use Rattle.tree.specs.Rows.{par, index, count, kid, kids, Well, Steps, path}
+use Rattle.rows.specs.declared.node.NodeId.{NodeId}
+use Rattle.rows.specs.declared.node.Row.{Row}
+use Rattle.rows.specs.declared.filters.FilterResult.{FilterResult}
+use Rattle.rows.specs.declared.filters.FilterResult.the-variants.{Include, ExcludeNode, ExcludeSubtree}
+use Rattle.rows.specs.Rows.{par, index, count, kid, Well}
+use Rattle.tree.specs.Subtrees.{kids, Steps, path}
 use Rattle.tree.specs.Walk.{shown, listed}
 use Rattle.tree.specs.Order.{Less, Before, InOrder}
 use Rattle.tree.proofs.Rows.{kids-length, kid-above, kid-more, kids-here, forward-is}

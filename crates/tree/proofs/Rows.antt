@@ -1,4 +1,4 @@
--- What a well-formed table gives to a walk. Assumes nothing.
+-- What a well-formed table gives to a walk.
 use mathlib.Core.Path.{_≡_, refl, sym, ap, subst, _∙_}
 use mathlib.Core.List.{List, [], _∷_, _++_, map, append-assoc, append-nil, reverse}
 use mathlib.Core.Bool.{Bool, true, false, cond}
@@ -10,10 +10,11 @@ use lib.ListN.{length, getD, take, drop}
 use Rattle.std.specs.Joined.{joined}
 use Rattle.std.proofs.shelf.Lists.{length-take-le, length-drop, getD-take, getD-drop, drop-more, drop-all, nil-from-length, take-more, take-all, reverse-append, take-append-drop}
 use Rattle.std.proofs.shelf.Tests.{cases-eq, eqb-true, eqb-false, eq-eqb, ne-eqb}
-use Rattle.tree.specs.declared.node.Row.{Row}
-use Rattle.tree.specs.Rows.{row, par, index, start, count, noNode, kid, kids, Well, Steps, Under, turned, offspring, side, rest, build, whole}
+use Rattle.rows.specs.declared.node.Row.{Row}
+use Rattle.rows.specs.Rows.{row, par, index, start, count, noNode, kid, Well}
+use Rattle.tree.specs.Subtrees.{kids, Steps, Under, turned, offspring, side, rest, build, whole}
 use Rattle.tree.specs.Walk.{Sibling, Child}
-use Rattle.tree.specs.declared.node.NodeId.{NodeId}
+use Rattle.rows.specs.declared.node.NodeId.{NodeId}
 use Rattle.tree.specs.declared.way.Way.{Way}
 use Rattle.tree.specs.declared.way.Way.the-variants.{Forward, Backward}
 use Rattle.std.specs.declared.option.Option.{Option}

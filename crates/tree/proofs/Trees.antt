@@ -1,12 +1,12 @@
--- What a tree's ghost fields give. Assumes nothing.
+-- What a tree's ghost fields give.
 use Prim.Native.Nat.{ℕ}
 use native.Mathlib.Omega.{arith}
 use Rattle.tree.specs.declared.tree.Tree.{Tree}
-use Rattle.tree.specs.declared.node.Row.{Row}
-use Rattle.tree.specs.declared.node.NodeId.{NodeId}
-use Rattle.tree.specs.declared.filters.FilterResult.{FilterResult}
+use Rattle.rows.specs.declared.node.Row.{Row}
+use Rattle.rows.specs.declared.node.NodeId.{NodeId}
+use Rattle.rows.specs.declared.filters.FilterResult.{FilterResult}
 use Rattle.tree.specs.declared.way.Way.the-variants.{Forward}
-use Rattle.tree.specs.Rows.{Well}
+use Rattle.rows.specs.Rows.{Well}
 use Rattle.tree.specs.Walk.{answers}
 use Rattle.tree.specs.Trees.{rowsOf, IsRow, Lists}
 use Rattle.tree.proofs.Lists.{found-in, stands}

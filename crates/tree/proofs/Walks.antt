@@ -1,4 +1,4 @@
--- The turns of a filtered walk. Assumes nothing.
+-- The turns of a filtered walk.
 use mathlib.Core.Path.{_≡_, refl, sym, ap, subst, _∙_}
 use mathlib.Core.List.{List, [], _∷_, _++_, append-assoc, append-nil}
 use Prim.Native.Nat.{ℕ, zero, suc, _+_, _-_, _<_, _≤_}
@@ -7,11 +7,12 @@ use lib.ListN.{length, length-append}
 use Rattle.std.specs.Joined.{joined}
 use Rattle.std.specs.declared.option.Option.{Option}
 use Rattle.std.specs.declared.option.Option.the-variants.{Some, None}
-use Rattle.tree.specs.declared.node.Row.{Row}
-use Rattle.tree.specs.declared.node.NodeId.{NodeId}
-use Rattle.tree.specs.declared.filters.FilterResult.{FilterResult}
-use Rattle.tree.specs.declared.filters.FilterResult.the-variants.{Include, ExcludeNode, ExcludeSubtree}
-use Rattle.tree.specs.Rows.{offspring, side, rest, build, whole, Well, Under}
+use Rattle.rows.specs.declared.node.Row.{Row}
+use Rattle.rows.specs.declared.node.NodeId.{NodeId}
+use Rattle.rows.specs.declared.filters.FilterResult.{FilterResult}
+use Rattle.rows.specs.declared.filters.FilterResult.the-variants.{Include, ExcludeNode, ExcludeSubtree}
+use Rattle.rows.specs.Rows.{Well}
+use Rattle.tree.specs.Subtrees.{offspring, side, rest, build, whole, Under}
 use Rattle.tree.specs.declared.way.Way.{Way}
 use Rattle.tree.specs.Walk.{by, shown, head, ahead, In, Over, Child}
 use Rattle.tree.proofs.Rows.{build-is, into-some, child-under}

@@ -1,7 +1,5 @@
-pub mod Rows
+pub mod Subtrees
 pub mod Walk
 pub mod Order
 pub mod Trees
-pub mod Judge
-pub mod Filters
-pub mod Refusals
+pub mod Judged

@@ -1,12 +1,12 @@
--- Document order, by index paths. Assumes nothing.
+-- Document order, by index paths.
 use mathlib.Core.Path.{_≡_}
 use mathlib.Core.List.{List, [], _∷_, _++_}
 use mathlib.Core.Logic.{_⊎_}
 use Prim.Native.Nat.{ℕ, _<_}
 use mathlib.Core.Bool.{Bool, true, false, cond}
 use lib.Dec.{eqb, ltb}
-use Rattle.tree.specs.declared.node.Row.{Row}
-use Rattle.tree.specs.Rows.{Steps, path}
+use Rattle.rows.specs.declared.node.Row.{Row}
+use Rattle.tree.specs.Subtrees.{Steps, path}
 
 -- One index path comes before another: a front first, else by the first place where they differ.
 abbrev pub Less : List ℕ → List ℕ → Type 0

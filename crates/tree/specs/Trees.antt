@@ -1,4 +1,4 @@
--- What the calls on a judged tree answer. Assumes nothing.
+-- What the calls on a judged tree answer.
 use mathlib.Core.List.{List, _∷_, _++_, reverse}
 use mathlib.Core.Path.{_≡_}
 use mathlib.Core.Bool.{Bool}
@@ -10,13 +10,14 @@ use Rattle.std.specs.declared.option.Option.the-variants.{Some, None}
 use Rattle.std.specs.declared.result.Result.{Result}
 use Rattle.std.specs.declared.result.Result.the-variants.{Ok, Err}
 use Rattle.tree.specs.declared.tree.Tree.{Tree}
-use Rattle.tree.specs.declared.node.Row.{Row}
-use Rattle.tree.specs.declared.node.NodeId.{NodeId}
-use Rattle.tree.specs.declared.filters.FilterResult.{FilterResult}
-use Rattle.tree.specs.declared.filters.FilterResult.the-variants.{Include}
-use Rattle.tree.specs.declared.refusal.Refusal.{Refusal}
-use Rattle.tree.specs.declared.refusal.Refusal.the-variants.{Misplaced}
-use Rattle.tree.specs.Rows.{row, par, index, Steps, path}
+use Rattle.rows.specs.declared.node.Row.{Row}
+use Rattle.rows.specs.declared.node.NodeId.{NodeId}
+use Rattle.rows.specs.declared.filters.FilterResult.{FilterResult}
+use Rattle.rows.specs.declared.filters.FilterResult.the-variants.{Include}
+use Rattle.rows.specs.declared.refusal.Refusal.{Refusal}
+use Rattle.rows.specs.declared.refusal.Refusal.the-variants.{Misplaced}
+use Rattle.rows.specs.Rows.{row, par, index}
+use Rattle.tree.specs.Subtrees.{Steps, path}
 use Rattle.tree.specs.Order.{Before, InOrder, Apart}
 use Rattle.tree.specs.Walk.{answers, listed, Listed, head, Follows, Precedes}
 

@@ -1,4 +1,4 @@
--- What a filter lists below a base row. Assumes nothing.
+-- What a filter lists below a base row.
 use mathlib.Core.Path.{_≡_}
 use mathlib.Core.List.{List, [], _∷_, _++_, reverse}
 use mathlib.Core.Bool.{Bool, true, false, cond}
@@ -8,11 +8,12 @@ use lib.ListN.{length}
 use Rattle.std.specs.Joined.{joined}
 use Rattle.std.specs.declared.option.Option.{Option}
 use Rattle.std.specs.declared.option.Option.the-variants.{Some, None}
-use Rattle.tree.specs.declared.node.Row.{Row}
-use Rattle.tree.specs.declared.node.NodeId.{NodeId}
-use Rattle.tree.specs.declared.filters.FilterResult.{FilterResult}
-use Rattle.tree.specs.declared.filters.FilterResult.the-variants.{Include, ExcludeNode, ExcludeSubtree}
-use Rattle.tree.specs.Rows.{row, par, offspring, side, rest, build, Under}
+use Rattle.rows.specs.declared.node.Row.{Row}
+use Rattle.rows.specs.declared.node.NodeId.{NodeId}
+use Rattle.rows.specs.declared.filters.FilterResult.{FilterResult}
+use Rattle.rows.specs.declared.filters.FilterResult.the-variants.{Include, ExcludeNode, ExcludeSubtree}
+use Rattle.rows.specs.Rows.{row, par}
+use Rattle.tree.specs.Subtrees.{offspring, side, rest, build, Under}
 use Rattle.tree.specs.declared.way.Way.{Way}
 use Rattle.tree.specs.declared.way.Way.the-variants.{Forward, Backward}
 

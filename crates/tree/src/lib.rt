@@ -1,8 +1,4 @@
-// The tree that a page's rows make: its tables and how they are judged, its paths, its filters and
-// the one walk that serves every filter.
-pub mod filters;
-pub mod node;
-pub mod refusal;
-pub mod role;
+// The tree that judged rows make: its paths, the order of its rows, and the one walk that serves every
+// filter.
 pub mod tree;
 pub mod way;

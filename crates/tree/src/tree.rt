@@ -2,13 +2,12 @@
 ghost use Prim.Native.Nat.{ℕ, _+_, _<_, _≤_};
 ghost use mathlib.Core.Path.{_≡_};
 ghost use lib.ListN.{length, getD};
-ghost use Rattle.tree.specs.Rows.{Parted, Topped, Rising, Indexed, Placed, Rowed, Parented, Ordered, Shallow};
-use crate::node::*;
+ghost use Rattle.rows.specs.Rows.{Parted, Topped, Rising, Indexed, Placed, Rowed, Parented, Ordered, Shallow};
+use rows::node::*;
 
 pub mod judge;
 pub mod order;
 pub mod path;
-mod verdict;
 pub mod walk;
 
 #[derive(Clone, Copy)]

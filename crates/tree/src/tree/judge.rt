@@ -1,11 +1,12 @@
 // A tree out of tables that have been judged, and the blank tree that comes with a refusal.
 ghost use mathlib.Core.Path.{_≡_};
-ghost use Rattle.tree.specs.Judge.{Verdict, Blank, Judged};
+ghost use Rattle.rows.specs.Judge.{Verdict};
+ghost use Rattle.tree.specs.Judged.{Blank, Judged};
 ghost use Rattle.std.specs.declared.option.Option.{Option};
-ghost use Rattle.tree.specs.declared.refusal.Refusal.{Refusal};
-use crate::node::*;
-use crate::refusal::Refusal;
-use crate::role;
+ghost use Rattle.rows.specs.declared.refusal.Refusal.{Refusal};
+use rows::node::*;
+use rows::refusal::Refusal;
+use rows::role;
 use crate::tree::Tree;
 
 static BLANK: [Row; 1] = [Row {

@@ -2,8 +2,8 @@
 ghost use mathlib.Core.Path.{_≡_};
 ghost use Rattle.tree.specs.Order.{lessb};
 ghost use Rattle.tree.specs.Trees.{BeforeOn};
-use crate::node::*;
-use crate::refusal::Refusal;
+use rows::node::*;
+use rows::refusal::Refusal;
 use crate::tree::Tree;
 
 // Whether one index path comes before another.

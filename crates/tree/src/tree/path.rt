@@ -2,10 +2,10 @@
 ghost use Prim.Native.Nat.{ℕ, _+_, _<_, _≤_};
 ghost use mathlib.Core.Path.{_≡_};
 ghost use lib.ListN.{length};
-ghost use Rattle.tree.specs.Rows.{row as rowAt};
+ghost use Rattle.rows.specs.Rows.{row as rowAt};
 ghost use Rattle.tree.specs.Trees.{rowsOf, RowOn, ParentOn, StepsOn, PathOn};
-use crate::node::*;
-use crate::refusal::Refusal;
+use rows::node::*;
+use rows::refusal::Refusal;
 use crate::tree::Tree;
 
 impl<'a> Tree<'a> {

@@ -2,15 +2,16 @@
 ghost use Prim.Native.Nat.{ℕ, _+_, _<_, _≤_};
 ghost use mathlib.Core.Path.{_≡_};
 ghost use lib.ListN.{length, getD};
-ghost use Rattle.tree.specs.Rows.{count as childCount, Under};
-ghost use Rattle.tree.specs.Rows.{kid as kidAt};
+ghost use Rattle.rows.specs.Rows.{count as childCount};
+ghost use Rattle.tree.specs.Subtrees.{Under};
+ghost use Rattle.rows.specs.Rows.{kid as kidAt};
 ghost use Rattle.tree.specs.Walk.{Over, In, Sibling, Child, ahead, shown, answers};
 ghost use Rattle.tree.specs.Walk.{head as headOf};
 ghost use Rattle.tree.specs.Trees.{rowsOf, entriesOf, IsRow, Lists, Included, Walked, FirstOn, LastOn, NextOn, PreviousOn};
 ghost use Rattle.std.specs.Orderings.{Decides};
-use crate::filters::*;
-use crate::node::*;
-use crate::refusal::Refusal;
+use rows::filters::*;
+use rows::node::*;
+use rows::refusal::Refusal;
 use crate::tree::Tree;
 use crate::way::Way;
 

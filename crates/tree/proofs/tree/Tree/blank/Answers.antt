@@ -1,5 +1,5 @@
 use borrow.Author.Needs.{needs}
-use Rattle.tree.proofs.Depths.{lift-low}
+use Rattle.rows.proofs.Lifts.{lift-low}
 use Rattle.tree.proofs.tree.Tree.blank.Needs as need
 
 pub ghost-result : need.ghost-result

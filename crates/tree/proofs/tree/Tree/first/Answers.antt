@@ -2,7 +2,8 @@ use mathlib.Core.Path.{refl, sym, ap, _∙_}
 use Rattle.tree.specs.declared.way.Way.the-variants.{Forward}
 use Rattle.tree.specs.Walk.{answers, head}
 use Rattle.tree.proofs.Trees.{well, lists}
-use Rattle.tree.proofs.Lists.{from-first, granted, denied}
+use Rattle.tree.proofs.Lists.{from-first}
+use Rattle.rows.proofs.Tests.{granted, denied}
 use Rattle.tree.proofs.tree.Tree.first.Needs as need
 
 pub returns-then-not-includes : need.returns-then-not-includes

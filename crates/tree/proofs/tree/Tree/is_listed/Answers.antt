@@ -1,10 +1,11 @@
 use Rattle.tree.specs.declared.way.Way.the-variants.{Forward}
 use mathlib.Core.Path.{refl, sym, _∙_}
 use native.Mathlib.Omega.{arith}
-use Rattle.tree.specs.Rows.{par}
+use Rattle.rows.specs.Rows.{par}
 use Rattle.tree.specs.Walk.{answers}
 use Rattle.tree.proofs.Trees.{well}
-use Rattle.tree.proofs.Lists.{on-up, on-down, on-above, passed-under, refuse, granted, denied}
+use Rattle.tree.proofs.Lists.{on-up, on-down, on-above, passed-under}
+use Rattle.rows.proofs.Tests.{refuse, granted, denied}
 use Rattle.tree.proofs.tree.Tree.is_listed.Needs as need
 
 pub returns-then-not-includes-2 : need.returns-then-not-includes-2

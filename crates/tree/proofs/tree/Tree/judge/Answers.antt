@@ -1,4 +1,4 @@
-use Rattle.tree.proofs.Judges.{well-formed}
+use Rattle.rows.proofs.Judges.{well-formed}
 use Rattle.tree.proofs.tree.Tree.judge.Needs as need
 
 pub ghost-result : need.ghost-result

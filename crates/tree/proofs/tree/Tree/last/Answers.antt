@@ -2,7 +2,8 @@ use mathlib.Core.Path.{sym, ap, _∙_}
 use Rattle.tree.specs.declared.way.Way.the-variants.{Backward}
 use Rattle.tree.specs.Walk.{answers, head}
 use Rattle.tree.proofs.Trees.{well}
-use Rattle.tree.proofs.Lists.{from-first, along-back, granted}
+use Rattle.tree.proofs.Lists.{from-first, along-back}
+use Rattle.rows.proofs.Tests.{granted}
 use Rattle.tree.proofs.tree.Tree.last.Needs as need
 
 pub returns : need.returns

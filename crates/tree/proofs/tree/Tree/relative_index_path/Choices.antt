@@ -2,7 +2,7 @@ use Prim.Native.Nat.{ℕ, _-_, _<_}
 use mathlib.Core.Path.{_≡_}
 use mathlib.Core.List.{_++_}
 use lib.ListN.{length, take, drop}
-use Rattle.tree.specs.Rows.{Steps, path}
+use Rattle.tree.specs.Subtrees.{Steps, path}
 use Rattle.tree.proofs.tree.Tree.relative_index_path.Given as given
 
 -- What is yet to be written, and then what stands from the place on.

@@ -1,7 +1,7 @@
 use mathlib.Core.Path.{_≡_, sym, ap, subst, _∙_}
 use Prim.Native.Nat.{_<_}
 use lib.ListN.{length}
-use Rattle.tree.specs.Rows.{whole}
+use Rattle.tree.specs.Subtrees.{whole}
 use Rattle.tree.specs.Walk.{In, ahead, shown, answers, head}
 use Rattle.tree.proofs.Trees.{well}
 use Rattle.tree.proofs.Walks.{found, skip, pass, into, falls-over, falls-into, in-child}

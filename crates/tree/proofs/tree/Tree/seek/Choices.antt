@@ -1,6 +1,6 @@
 use mathlib.Core.Path.{_≡_}
 use lib.ListN.{length}
-use Rattle.tree.specs.Rows.{whole}
+use Rattle.tree.specs.Subtrees.{whole}
 use Rattle.tree.specs.Walk.{In, ahead, shown, answers}
 use Rattle.tree.proofs.tree.Tree.seek.Given as given
 

@@ -1,7 +1,7 @@
 use mathlib.Core.List.{List}
 use mathlib.Core.Path.{_≡_}
 use Prim.Native.Nat.{ℕ}
-use Rattle.tree.specs.Rows.{Under, rest}
+use Rattle.tree.specs.Subtrees.{Under, rest}
 use Rattle.tree.proofs.tree.Tree.step_over.Given as given
 
 -- What comes behind the row is what comes behind the row reached.

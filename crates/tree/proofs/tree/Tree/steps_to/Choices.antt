@@ -1,6 +1,6 @@
 use Prim.Native.Nat.{ℕ, _<_, _≤_, _+_}
 use lib.ListN.{length}
-use Rattle.tree.specs.Rows.{Steps}
+use Rattle.tree.specs.Subtrees.{Steps}
 use Rattle.tree.proofs.tree.Tree.steps_to.Given as given
 
 -- The base lies above the row just where it lies above the row reached, n steps nearer.

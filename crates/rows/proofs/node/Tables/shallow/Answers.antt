@@ -1,9 +1,9 @@
 use mathlib.Core.Path.{refl, sym, ap, _∙_}
 use native.Mathlib.Omega.{arith}
-use Rattle.tree.specs.Rows.{lift}
-use Rattle.tree.proofs.Depths.{lift-top, lift-none, lift-step}
-use Rattle.tree.proofs.Lists.{refuse}
-use Rattle.tree.proofs.node.Tables.shallow.Needs as need
+use Rattle.rows.specs.Rows.{lift}
+use Rattle.rows.proofs.Lifts.{lift-top, lift-none, lift-step}
+use Rattle.rows.proofs.Tests.{refuse}
+use Rattle.rows.proofs.node.Tables.shallow.Needs as need
 
 pub returns-then-left-eq0 : need.returns-then-left-eq0
 returns-then-left-eq0 c =

@@ -1,10 +1,10 @@
--- The answers of the two filters. Assumes nothing.
+-- The answers of the two filters.
 use mathlib.Core.Bool.{Bool, true, false, cond, _||_, _&&_}
 use Prim.Native.Nat.{ℕ}
 use lib.Dec.{eqb, leb}
-use Rattle.tree.specs.declared.node.Row.{Row}
-use Rattle.tree.specs.declared.filters.FilterResult.{FilterResult}
-use Rattle.tree.specs.declared.filters.FilterResult.the-variants.{Include, ExcludeNode, ExcludeSubtree}
+use Rattle.rows.specs.declared.node.Row.{Row}
+use Rattle.rows.specs.declared.filters.FilterResult.{FilterResult}
+use Rattle.rows.specs.declared.filters.FilterResult.the-variants.{Include, ExcludeNode, ExcludeSubtree}
 
 -- The text filter includes the root and text runs, and excludes the rest as nodes.
 abbrev pub textAnswer : ℕ → ℕ → Row → FilterResult

@@ -1,16 +1,13 @@
--- The tree that the rows and the child entries make. Assumes nothing.
+-- The rows and child entries of the tables, and what a tree of them must be.
 use mathlib.Core.Path.{_≡_}
-use mathlib.Core.List.{List, [], _∷_, _++_, map, reverse}
-use mathlib.Core.Bool.{Bool, true, false, cond}
+use mathlib.Core.List.{List}
+use mathlib.Core.Bool.{false, cond}
 use Prim.Native.Nat.{ℕ, zero, suc, _+_, _<_, _≤_}
 use lib.Dec.{eqb}
-use lib.ListN.{length, getD, take, drop}
-use Rattle.std.specs.Joined.{joined}
-use Rattle.tree.specs.declared.node.Row.{Row}
-use Rattle.tree.specs.declared.node.Part.{Part}
-use Rattle.tree.specs.declared.node.NodeId.{NodeId}
-use Rattle.tree.specs.declared.way.Way.{Way}
-use Rattle.tree.specs.declared.way.Way.the-variants.{Forward, Backward}
+use lib.ListN.{length, getD}
+use Rattle.rows.specs.declared.node.Row.{Row}
+use Rattle.rows.specs.declared.node.Part.{Part}
+use Rattle.rows.specs.declared.node.NodeId.{NodeId}
 
 -- The empty part.
 abbrev pub noPart : Part
@@ -47,10 +44,6 @@ noNode = record { 0 = 0 }
 -- The child of r at place k.
 abbrev pub kid : List Row → List NodeId → ℕ → ℕ → ℕ
 kid rs cs r k = getD cs (start rs r + k) noNode .0
-
--- The children of r, in order.
-unfoldable pub kids : List Row → List NodeId → ℕ → List ℕ
-kids rs cs r = map (λ n. n .0) (take (count rs r) (drop (start rs r) cs))
 
 -- Each row's child entries lie within their table.
 abbrev pub Parted : List Row → List NodeId → Type 0
@@ -106,47 +99,3 @@ pub record Well (rs : List Row) (cs : List NodeId) : Type 0 where
   pub parented : Parented rs cs
   pub ordered : Ordered rs cs
   pub shallow : Shallow rs
-
--- The base lies k steps up from r.
-abbrev pub Steps : List Row → ℕ → ℕ → ℕ → Type 0
-Steps rs zero base r = r ≡ base
-Steps rs (suc k) base r = (0 < r) × (r < length rs) × Steps rs k base (par rs r)
-
--- The index path that leads k steps down to r.
-unfoldable pub path : List Row → ℕ → ℕ → List ℕ
-path rs zero r = []
-path rs (suc k) r = path rs k (par rs r) ++ index rs r ∷ []
-
--- r lies below base.
-abbrev pub Under : List Row → ℕ → ℕ → Type 0
-Under rs base r = (k : ℕ) × Steps rs (suc k) base r
-
--- A list as a walk goes along it.
-abbrev pub turned : Way → List ℕ → List ℕ
-turned Forward xs = xs
-turned Backward xs = reverse xs
-
--- The children of r as a walk comes to them.
-unfoldable pub offspring : List Row → List NodeId → Way → ℕ → List ℕ
-offspring rs cs d r = turned d (kids rs cs r)
-
--- The children of r's parent that a walk comes to after r.
-unfoldable pub side : List Row → List NodeId → Way → ℕ → List ℕ
-side rs cs Forward r = drop (index rs r + 1) (kids rs cs (par rs r))
-side rs cs Backward r = reverse (take (index rs r) (kids rs cs (par rs r)))
-
--- What a walk comes to below base after r and all that is below r, where each subtree yields what f
--- says. The first number bounds the steps up.
-unfoldable pub rest : List Row → List NodeId → Way → (ℕ → List ℕ) → ℕ → ℕ → ℕ → List ℕ
-rest rs cs d f zero base r = []
-rest rs cs d f (suc n) base r = joined f (side rs cs d r) ++ cond (eqb (par rs r) base) [] (rest rs cs d f n base (par rs r))
-
--- A list made from a subtree, where g makes it from a row and the joined lists of its children.
--- The first number bounds the depth.
-unfoldable pub build : List Row → List NodeId → Way → (ℕ → List ℕ → List ℕ) → ℕ → ℕ → List ℕ
-build rs cs d g zero r = []
-build rs cs d g (suc n) r = g r (joined (build rs cs d g n) (offspring rs cs d r))
-
--- r and all below it, in the order of a walk.
-abbrev pub whole : List Row → List NodeId → Way → ℕ → List ℕ
-whole rs cs d = build rs cs d _∷_ (length rs)

@@ -1,6 +1,6 @@
 // What a call declines with: a case for each number, and the row or the bytes that go with it.
 ghost use mathlib.Core.Path.{_≡_};
-ghost use Rattle.tree.specs.Refusals.{numberOf, faultOf, neededOf};
+ghost use Rattle.rows.specs.Refusals.{numberOf, faultOf, neededOf};
 use crate::node::*;
 
 #[derive(Clone, Copy)]

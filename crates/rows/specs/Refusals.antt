@@ -1,10 +1,10 @@
--- What goes with a refusal. Assumes nothing.
+-- What goes with a refusal.
 use Prim.Native.Nat.{ℕ}
 use Rattle.std.specs.declared.option.Option.{Option}
 use Rattle.std.specs.declared.option.Option.the-variants.{Some, None}
-use Rattle.tree.specs.declared.node.NodeId.{NodeId}
-use Rattle.tree.specs.declared.refusal.Refusal.{Refusal}
-use Rattle.tree.specs.declared.refusal.Refusal.the-variants.{BadTables, BadRow, BadRoot, BadRun, BadWords, BadLine, AtEnd, AtStart, Misplaced, Beyond, Needed}
+use Rattle.rows.specs.declared.node.NodeId.{NodeId}
+use Rattle.rows.specs.declared.refusal.Refusal.{Refusal}
+use Rattle.rows.specs.declared.refusal.Refusal.the-variants.{BadTables, BadRow, BadRoot, BadRun, BadWords, BadLine, AtEnd, AtStart, Misplaced, Beyond, Needed}
 
 -- The refusal's number.
 abbrev pub numberOf : Refusal → ℕ

@@ -1,12 +1,12 @@
--- What a verdict gives to a tree. Assumes nothing.
+-- What a verdict gives to a tree.
 use mathlib.Core.Path.{_≡_, refl, subst}
 use mathlib.Core.Logic.{⊎-elim}
 use Prim.Native.Nat.{ℕ, _+_, _<_}
 use native.Mathlib.Omega.{arith}
 use Rattle.std.proofs.shelf.Tests.{cases-lt}
-use Rattle.tree.specs.declared.node.Tables.{Tables}
-use Rattle.tree.specs.Rows.{Well}
-use Rattle.tree.specs.Judge.{rowsIn, entriesIn, WellFormed}
+use Rattle.rows.specs.declared.node.Tables.{Tables}
+use Rattle.rows.specs.Rows.{Well}
+use Rattle.rows.specs.Judge.{rowsIn, entriesIn, WellFormed}
 
 -- what holds below n and at n holds below n + 1
 pub one-more : (P : ℕ → Type 0) (n : ℕ) → ((q : ℕ) → q < n → P q) → P n → (q : ℕ) → q < n + 1 → P q

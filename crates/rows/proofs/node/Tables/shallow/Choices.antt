@@ -1,8 +1,8 @@
 use Prim.Native.Nat.{_≤_}
 use mathlib.Core.Path.{_≡_}
-use Rattle.tree.specs.Rows.{lift}
-use Rattle.tree.specs.Judge.{rowsIn}
-use Rattle.tree.proofs.node.Tables.shallow.Given as given
+use Rattle.rows.specs.Rows.{lift}
+use Rattle.rows.specs.Judge.{rowsIn}
+use Rattle.rows.proofs.node.Tables.shallow.Given as given
 
 abbrev pub Inv-loop-current : given.InvT-loop-current
 Inv-loop-current l = (l .current ≤ l .entry .current) × (l .left ≤ 64) × (lift (rowsIn (l .self)) 64 (l .entry .current) ≡ lift (rowsIn (l .self)) (l .left) (l .current))

@@ -1,9 +1,9 @@
 // What a filter answers for a row, and the two filters that a page is walked with.
 ghost use mathlib.Core.Path.{_≡_};
 ghost use Prim.Native.Nat.{ℕ};
-ghost use Rattle.tree.specs.declared.filters.FilterResult.{FilterResult};
-ghost use Rattle.tree.specs.declared.node.Row.{Row};
-ghost use Rattle.tree.specs.Filters.{textAnswer, fieldAnswer};
+ghost use Rattle.rows.specs.declared.filters.FilterResult.{FilterResult};
+ghost use Rattle.rows.specs.declared.node.Row.{Row};
+ghost use Rattle.rows.specs.Filters.{textAnswer, fieldAnswer};
 use crate::node::*;
 use crate::role;
 

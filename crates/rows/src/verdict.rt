@@ -3,8 +3,8 @@
 ghost use Prim.Native.Nat.{ℕ, _+_, _<_, _≤_};
 ghost use mathlib.Core.Path.{_≡_};
 ghost use lib.ListN.{length};
-ghost use Rattle.tree.specs.Judge.{rowsIn, entriesIn, Within, RoleAt, PartsAt, RisingAt, PlacedAt, EntryAt, EnteredAt, GraftedAt, Topmost, Rivals, LoneAt, ShallowAt, Sound, Sized, Verdict};
-ghost use Rattle.tree.specs.Rows.{count as childCount};
+ghost use Rattle.rows.specs.Judge.{rowsIn, entriesIn, Within, RoleAt, PartsAt, RisingAt, PlacedAt, EntryAt, EnteredAt, GraftedAt, Topmost, Rivals, LoneAt, ShallowAt, Sound, Sized, Verdict};
+ghost use Rattle.rows.specs.Rows.{count as childCount};
 ghost use Rattle.std.specs.Orderings.{Decides};
 use crate::node::*;
 use crate::refusal::Refusal;
@@ -220,7 +220,7 @@ impl<'a> Tables<'a> {
     }
 
     // Nothing where the tables are well-formed, else the refusal.
-    pub(crate) fn verdict(&self, root: NodeId) -> Option<Refusal>
+    pub fn verdict(&self, root: NodeId) -> Option<Refusal>
         ensures { λ r. ⌜ Verdict (now (self .entry)) (root .0) r ⌝ }
     {
         if !self.sized(root) {
