@@ -1,0 +1,16 @@
+use Prim.Native.Nat.{_-_}
+use Rattle.position.specs.declared.position.Position.{Position}
+use Rattle.position.specs.Places.{Lawful, offsetIn, offset, total}
+use Rattle.position.specs.Starts.{startsParagraph, endsParagraph}
+use Rattle.moves.specs.Lines.{EndsLine}
+use Rattle.moves.specs.Repeats.{Repeats, LineOn, LineBack, endOrStart}
+use Rattle.moves.proofs.paragraph.backward_to_paragraph_start.Given as given
+
+abbrev pub Inv-loop-e : given.InvT-loop-e
+Inv-loop-e g l =
+    let d = g .S·Source .doc (l .s) in
+    ((q : Position) → Repeats (LineBack d) (startsParagraph d) (l .current) q → Repeats (LineBack d) (startsParagraph d) (l .entry .current) q)
+    × (Lawful d (l .entry .current) → Lawful d (l .current)) × (Lawful d (l .current) → Lawful d (l .entry .current))
+
+abbrev pub μ-loop-e : given.MeasureT-loop-e
+μ-loop-e g l = let d = g .S·Source .doc (l .s) in offset d (l .current)

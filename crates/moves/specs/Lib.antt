@@ -1,0 +1,4 @@
+pub mod Arrivals
+pub mod Lines
+pub mod Repeats
+pub mod Laws

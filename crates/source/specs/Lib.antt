@@ -1,0 +1,5 @@
+pub mod Runs
+pub mod Pieces
+pub mod Strips
+pub mod Layers
+pub mod Keeping

@@ -1,0 +1,4 @@
+pub mod Stops
+pub mod Moves
+pub mod Marks
+pub mod Laws
