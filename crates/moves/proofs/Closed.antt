@@ -13,7 +13,7 @@ use Rattle.rows.specs.declared.node.NodeId.{NodeId}
 use Rattle.source.specs.Runs.{Run, Document, Sound, countIn, nextIn, previousIn}
 use Rattle.position.specs.declared.position.Position.{Position}
 use Rattle.position.specs.Places.{Lawful, offsetIn, offset, total, place, atEnd}
-use Rattle.position.specs.Starts.{joins, breaks, opensLine, opensParagraph, unjoined, broken, isNone, runEnd, startsLine, startsParagraph, endsDocument}
+use Rattle.starts.specs.Starts.{joins, breaks, opensLine, opensParagraph, unjoined, broken, isNone, runEnd, startsLine, startsParagraph, endsDocument}
 use Rattle.position.proofs.Options.{count-of}
 use Rattle.position.proofs.Places.{offset-inside}
 use Rattle.position.proofs.Neighbours.{offset-add, meets-end}

@@ -8,7 +8,7 @@ use Rattle.std.proofs.shelf.Tests.{both-ways, cases-lt}
 use Rattle.source.specs.Runs.{Document}
 use Rattle.position.specs.declared.position.Position.{Position}
 use Rattle.position.specs.Places.{Lawful, Answers, offset, offsetIn, place, total}
-use Rattle.position.specs.Starts.{startsParagraph, endsParagraph}
+use Rattle.starts.specs.Starts.{startsParagraph, endsParagraph}
 use Rattle.position.specs.Laws.{Single}
 use Rattle.position.proofs.Laws.{answers-single}
 use Rattle.unit.specs.Stops.{Stops}

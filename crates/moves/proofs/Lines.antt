@@ -14,7 +14,7 @@ use Rattle.source.specs.Runs.{Run, Document, Sound, count, rowId, Listed, count
 use Rattle.source.specs.Pieces.{Within}
 use Rattle.position.specs.declared.position.Position.{Position}
 use Rattle.position.specs.Places.{Lawful, offsetIn, totalIn, offset, total, at, sizeOf, place, toStart}
-use Rattle.position.specs.Starts.{yes, joins}
+use Rattle.starts.specs.Starts.{yes, joins}
 use Rattle.position.proofs.Options.{some-same, not-none, row-same, count-of, within-zero}
 use Rattle.position.proofs.Places.{there, count-here, count-later, offset-here, offset-later, offset-inside, root-place, within-place}
 use Rattle.position.proofs.Neighbours.{offset-add, meets}

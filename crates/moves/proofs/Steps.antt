@@ -14,7 +14,7 @@ use Rattle.source.specs.Runs.{Run, Document, Sound, rowId, Lacks, Listed, count
 use Rattle.source.specs.Pieces.{Within}
 use Rattle.position.specs.declared.position.Position.{Position}
 use Rattle.position.specs.Places.{Lawful, offsetIn, totalIn, offset, total, at, place, atEnd, sizeOf}
-use Rattle.position.specs.Starts.{opensLine, broken, isNone, runEnd, startsLine, startsParagraph, endsDocument, endsLine, endsParagraph, breaks}
+use Rattle.starts.specs.Starts.{opensLine, broken, isNone, runEnd, startsLine, startsParagraph, endsDocument, endsLine, endsParagraph, breaks}
 use Rattle.position.proofs.Options.{some-same, count-of}
 use Rattle.position.proofs.Places.{offset-inside, offset-place, within-place, root-place, first-place, place-full, place-biased}
 use Rattle.position.proofs.Neighbours.{offset-add, meets, meets-end}

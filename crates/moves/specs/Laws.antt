@@ -5,7 +5,7 @@ use Rattle.std.specs.declared.result.Result.{Result}
 use Rattle.rows.specs.declared.refusal.Refusal.{Refusal}
 use Rattle.position.specs.declared.position.Position.{Position}
 use Rattle.position.specs.Places.{Lawful, Answers}
-use Rattle.position.specs.Starts.{startsParagraph, endsParagraph}
+use Rattle.starts.specs.Starts.{startsParagraph, endsParagraph}
 use Rattle.position.specs.Laws.{Single}
 use Rattle.unit.specs.Stops.{Stops}
 use Rattle.moves.specs.Arrivals.{Arrives, Retreats}

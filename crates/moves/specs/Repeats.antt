@@ -5,7 +5,7 @@ use Prim.Native.Nat.{ℕ, zero, suc}
 use Rattle.source.specs.Runs.{Document}
 use Rattle.position.specs.declared.position.Position.{Position}
 use Rattle.position.specs.Places.{offsetIn, offset}
-use Rattle.position.specs.Starts.{startsParagraph, endsDocument}
+use Rattle.starts.specs.Starts.{startsParagraph, endsDocument}
 use Rattle.unit.specs.Marks.{lines}
 use Rattle.moves.specs.Arrivals.{Arrives, Retreats}
 

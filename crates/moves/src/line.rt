@@ -7,7 +7,7 @@ use crate::word::stop_after;
 use crate::word::stop_before;
 use position::bias::biased_to_start;
 use position::position::Position;
-use position::starts::joins;
+use starts::starts::joins;
 use source::source::Source;
 use rows::refusal::Refusal;
 use unit::line::Line;

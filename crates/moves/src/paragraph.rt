@@ -1,7 +1,7 @@
 // Moves by paragraphs: line moves made again, at least once.
 ghost use mathlib.Core.Path.{_≡_};
 ghost use Rattle.position.specs.Places.{Lawful, Answers, offset, offsetIn};
-ghost use Rattle.position.specs.Starts.{startsParagraph, endsParagraph};
+ghost use Rattle.starts.specs.Starts.{startsParagraph, endsParagraph};
 ghost use Rattle.unit.specs.Marks.{paragraphs};
 ghost use Rattle.moves.specs.Arrivals.{Arrives, Retreats};
 ghost use Rattle.moves.specs.Lines.{EndsLine};
@@ -10,9 +10,9 @@ use crate::line::backward_to_line_start;
 use crate::line::forward_to_line_end;
 use crate::line::forward_to_line_start;
 use position::position::Position;
-use position::starts::ends_document;
-use position::starts::ends_paragraph;
-use position::starts::starts_paragraph;
+use starts::starts::ends_document;
+use starts::starts::ends_paragraph;
+use starts::starts::starts_paragraph;
 use source::source::Source;
 use rows::refusal::Refusal;
 

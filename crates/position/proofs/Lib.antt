@@ -2,6 +2,5 @@ pub mod Options
 pub mod Places
 pub mod Neighbours
 pub mod Characters
-pub mod Words
 pub mod Orders
 pub mod Laws

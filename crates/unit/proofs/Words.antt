@@ -10,8 +10,8 @@ use Rattle.std.specs.declared.option.Option.{Option}
 use Rattle.std.specs.declared.option.Option.the-variants.{Some, None}
 use Rattle.std.proofs.shelf.Tests.{ltb-true, ltb-false, eq-eqb, ne-eqb, cases-lt, cond-both, or-from, or-left, or-right, and-left, and-right}
 use Rattle.source.specs.Runs.{Rising, firstFrom, lastBelow, orLower}
-use Rattle.position.specs.Starts.{among}
-use Rattle.position.proofs.Words.{under, above}
+use Rattle.starts.specs.Starts.{among}
+use Rattle.starts.proofs.Words.{under, above}
 use Rattle.unit.specs.Marks.{First, Last}
 
 first-past : (w n i : ℕ) (ws : List ℕ) (o : Option ℕ) → w < i → First (λ k. among k ws) n i o → First (λ k. among k (w ∷ ws)) n i o

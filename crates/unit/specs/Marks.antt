@@ -8,7 +8,7 @@ use Rattle.std.specs.declared.option.Option.the-variants.{Some, None}
 use Rattle.source.specs.Runs.{Document, countIn}
 use Rattle.position.specs.declared.position.Position.{Position}
 use Rattle.position.specs.Places.{at, place}
-use Rattle.position.specs.Starts.{startsLine, startsParagraph, startsWord}
+use Rattle.starts.specs.Starts.{startsLine, startsParagraph, startsWord}
 use Rattle.unit.specs.Stops.{Stops}
 
 -- The first place, and each place whose position is marked.

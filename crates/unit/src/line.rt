@@ -1,10 +1,10 @@
 // The unit whose stops are the starts of lines.
-ghost use Rattle.position.specs.Starts.{startsLine};
+ghost use Rattle.starts.specs.Starts.{startsLine};
 ghost use Rattle.unit.specs.Marks.{lines};
 use crate::marks::*;
 use crate::unit::*;
 use position::position::Position;
-use position::starts::opens_line;
+use starts::starts::opens_line;
 use source::source::Source;
 use rows::node::NodeId;
 use rows::refusal::Refusal;

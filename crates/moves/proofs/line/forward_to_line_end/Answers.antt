@@ -1,6 +1,6 @@
 use mathlib.Core.Path.{refl, sym, _∙_}
 use Rattle.std.proofs.shelf.Tests.{both-ways}
-use Rattle.position.specs.Starts.{joins}
+use Rattle.starts.specs.Starts.{joins}
 use Rattle.moves.proofs.Lines.{begins, row-on, row-falls, row-line, last-ends, line-found}
 use Rattle.moves.proofs.line.forward_to_line_end.Needs as need
 

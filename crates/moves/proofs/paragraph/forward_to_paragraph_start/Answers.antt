@@ -1,6 +1,6 @@
 use mathlib.Core.Path.{_≡_, sym, _∙_}
 use Prim.Native.Nat.{zero, suc}
-use Rattle.position.specs.Starts.{startsParagraph, endsParagraph}
+use Rattle.starts.specs.Starts.{startsParagraph, endsParagraph}
 use Rattle.moves.specs.Lines.{EndsLine}
 use Rattle.moves.specs.Repeats.{Repeats, LineOn, LineBack, endOrStart}
 use Rattle.moves.proofs.Closed.{on-closed}

@@ -1,7 +1,7 @@
 use Prim.Native.Nat.{_-_}
 use Rattle.position.specs.declared.position.Position.{Position}
 use Rattle.position.specs.Places.{Lawful, offsetIn, offset, total}
-use Rattle.position.specs.Starts.{startsParagraph, endsParagraph}
+use Rattle.starts.specs.Starts.{startsParagraph, endsParagraph}
 use Rattle.moves.specs.Lines.{EndsLine}
 use Rattle.moves.specs.Repeats.{Repeats, LineOn, LineBack, endOrStart}
 use Rattle.moves.proofs.paragraph.forward_to_paragraph_start.Given as given

@@ -1,9 +1,9 @@
 use mathlib.Core.Path.{_≡_, refl, sym, ap, subst, _∙_}
 use Rattle.source.specs.Runs.{wordsIn}
 use Rattle.unit.specs.Marks.{First}
-use Rattle.position.specs.Starts.{opensParagraph, among}
+use Rattle.starts.specs.Starts.{opensParagraph, among}
 use Rattle.unit.proofs.Words.{first-among, first-word}
-use Rattle.position.proofs.Words.{rising-of}
+use Rattle.starts.proofs.Words.{rising-of}
 use Rattle.unit.proofs.word.WordMarks.first_from.Needs as need
 
 pub returns-else-starts-paragraph-at : need.returns-else-starts-paragraph-at

@@ -2,9 +2,9 @@ use mathlib.Core.Path.{_≡_, refl, sym, ap, subst, _∙_}
 use Rattle.source.specs.Runs.{wordsIn}
 use Rattle.std.specs.declared.option.Option.the-variants.{Some, None}
 use Rattle.unit.specs.Marks.{Last}
-use Rattle.position.specs.Starts.{opensParagraph, among}
+use Rattle.starts.specs.Starts.{opensParagraph, among}
 use Rattle.unit.proofs.Words.{last-among, last-word, last-open, last-none}
-use Rattle.position.proofs.Words.{rising-of}
+use Rattle.starts.proofs.Words.{rising-of}
 use Rattle.unit.proofs.word.WordMarks.last_before.Needs as need
 
 pub returns-in-Some : need.returns-in-Some

@@ -2,10 +2,10 @@
 // ends.
 ghost use mathlib.Core.Path.{_≡_};
 ghost use mathlib.Core.Bool.{Bool, true};
 ghost use Rattle.position.specs.Places.{Lawful, Answers};
-ghost use Rattle.position.specs.Starts.{joins, breaks, opensLine, opensParagraph, runEnd, startsDocument, endsDocument, startsLine, endsLine, startsParagraph, endsParagraph, startsWord};
-use crate::bias::biased_to_start;
-use crate::position::Position;
+ghost use Rattle.starts.specs.Starts.{joins, breaks, opensLine, opensParagraph, runEnd, startsDocument, endsDocument, startsLine, endsLine, startsParagraph, endsParagraph, startsWord};
+use position::bias::biased_to_start;
+use position::position::Position;
 use source::source::Source;
 use rows::node::NodeId;
 use rows::refusal::Refusal;

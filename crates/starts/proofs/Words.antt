@@ -10,8 +10,8 @@ use Rattle.std.specs.declared.option.Option.{Option}
 use Rattle.std.specs.declared.option.Option.the-variants.{Some, None}
 use Rattle.std.proofs.shelf.Tests.{both-ways, ltb-true, ltb-false, eq-eqb, ne-eqb, cases-bool, cases-lt, cond-true, cond-false, or-from, or-left}
 use Rattle.source.specs.Runs.{Run, SoundRun, count, Every, Rising, countIn, wordsIn, firstFrom}
-use Rattle.position.specs.Starts.{among}
+use Rattle.starts.specs.Starts.{among}
 use Rattle.position.proofs.Options.{some-same, not-none}
 
 pub rising-of : (xs : List Run) (r n : ℕ) → Every SoundRun xs → Some n ≡ countIn xs r → Rising 0 n (wordsIn xs r)
 rising-of [] r n s c = absurd (not-none n c)

@@ -2,10 +2,10 @@ use mathlib.Core.Path.{sym, ap, _∙_}
 use mathlib.Core.Bool.{_||_}
 use Rattle.std.specs.declared.option.Option.the-variants.{Some, None}
 use Rattle.source.specs.Runs.{countIn, wordsIn}
-use Rattle.position.specs.Starts.{among}
+use Rattle.starts.specs.Starts.{among}
 use Rattle.position.proofs.Options.{count-of}
-use Rattle.position.proofs.Words.{among-first, rising-of}
-use Rattle.position.proofs.starts.is_word_start.Needs as need
+use Rattle.starts.proofs.Words.{among-first, rising-of}
+use Rattle.starts.proofs.starts.is_word_start.Needs as need
 
 pub returns-in-Some : need.returns-in-Some
 returns-in-Some g c =
