@@ -1,0 +1,6 @@
+pub mod Sums
+pub mod Walks
+pub mod Indexes
+pub mod Searches
+pub mod LineIndexes
+pub mod Laws

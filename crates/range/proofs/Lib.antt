@@ -1,0 +1,4 @@
+pub mod Characters
+pub mod Walks
+pub mod Buffers
+pub mod Laws

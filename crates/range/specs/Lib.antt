@@ -1,0 +1,4 @@
+pub mod Ranges
+pub mod Texts
+pub mod Walks
+pub mod Laws

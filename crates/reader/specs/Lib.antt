@@ -1,0 +1,4 @@
+pub mod Spans
+pub mod Indexes
+pub mod Steps
+pub mod Laws

@@ -1,0 +1,2 @@
+// Readers: a source that is read on and back by units.
+pub mod reader;
