@@ -18,7 +18,8 @@ use Rattle.position.specs.declared.position.Position.{Position}
 use Rattle.position.specs.Places.{Lawful, offsetIn, totalIn, offset, total}
 use Rattle.position.proofs.Options.{some-same, not-none, count-of}
 use Rattle.position.proofs.Places.{count-later}
-use Rattle.index.specs.Measured.{textIn, measured, indexAt, RunUnits}
+use Rattle.position.specs.Places.{charactersOf}
+use Rattle.index.specs.Measured.{measured, indexAt, RunUnits}
 use Rattle.index.proofs.Sums.{sumAll, measured-all, all-append, all-take, all-small, every-take, every-append, run-characters, count-chars, count-small}
 use Rattle.index.proofs.Walks.{suffix, suffix-first, Here, here-of, then-at, ahead-here}
 
@@ -27,9 +28,9 @@ abbrev pub before : (ℕ → ℕ) → List Run → ℕ → ℕ → ℕ
 before u [] r i = 0
 before u (x ∷ xs) r i = cond (eqb (x .row) r) (sumAll u (take i (x .characters))) (sumAll u (x .characters) + before u xs r i)
 
-pub text-characters : (xs : List Run) → Every SoundRun xs → Every Character (textIn xs)
+pub text-characters : (xs : List Run) → Every SoundRun xs → Every Character (charactersOf xs)
 text-characters [] s = tt
-text-characters (x ∷ xs) s = every-append Character (x .characters) (textIn xs) (s .0 .characters) (text-characters xs (s .1))
+text-characters (x ∷ xs) s = every-append Character (x .characters) (charactersOf xs) (s .0 .characters) (text-characters xs (s .1))
 
 take-front : (a b : List (List ℕ)) (i : ℕ) → i ≤ length a → take i (a ++ b) ≡ take i a
 take-front a b zero h = refl
@@ -45,19 +46,19 @@ take-past u (c ∷ a) b i =
     omega arith
 
 -- they are those of the text before the place
-pub before-text : (u : ℕ → ℕ) (xs : List Run) (r i : ℕ) → Within i (countIn xs r) → sumAll u (take (offsetIn xs r i) (textIn xs)) ≡ before u xs r i
+pub before-text : (u : ℕ → ℕ) (xs : List Run) (r i : ℕ) → Within i (countIn xs r) → sumAll u (take (offsetIn xs r i) (charactersOf xs)) ≡ before u xs r i
 before-text u [] r i w = absurd w
 before-text u (x ∷ xs) r i w =
     ⊎-elim
     (λ q.
     let v : i ≤ count x = subst (Within i) (cond-true (eqb (x .row) r) (Some (count x)) (countIn xs r) q) w in
-    ap (λ n. sumAll u (take n (x .characters ++ textIn xs))) (cond-true (eqb (x .row) r) i (count x + offsetIn xs r i) q)
-    ∙ ap (sumAll u) (take-front (x .characters) (textIn xs) i v)
+    ap (λ n. sumAll u (take n (x .characters ++ charactersOf xs))) (cond-true (eqb (x .row) r) i (count x + offsetIn xs r i) q)
+    ∙ ap (sumAll u) (take-front (x .characters) (charactersOf xs) i v)
     ∙ sym (cond-true (eqb (x .row) r) (sumAll u (take i (x .characters))) (sumAll u (x .characters) + before u xs r i) q))
     (λ q.
     let v = subst (Within i) (cond-false (eqb (x .row) r) (Some (count x)) (countIn xs r) q) w in
-    ap (λ n. sumAll u (take n (x .characters ++ textIn xs))) (cond-false (eqb (x .row) r) i (count x + offsetIn xs r i) q)
-    ∙ take-past u (x .characters) (textIn xs) (offsetIn xs r i)
+    ap (λ n. sumAll u (take n (x .characters ++ charactersOf xs))) (cond-false (eqb (x .row) r) i (count x + offsetIn xs r i) q)
+    ∙ take-past u (x .characters) (charactersOf xs) (offsetIn xs r i)
     ∙ ap (λ n. sumAll u (x .characters) + n) (before-text u xs r i v)
     ∙ sym (cond-false (eqb (x .row) r) (sumAll u (take i (x .characters))) (sumAll u (x .characters) + before u xs r i) q))
     (cases-bool (eqb (x .row) r))
@@ -173,5 +174,5 @@ module _ (u : ℕ → ℕ) (few : (c : ℕ) → u c ≤ 4) (d : Document) (s : S
 -- the sum is the index
 pub index-is : (u : ℕ → ℕ) (d : Document) → Sound d → (p : Position) → Lawful d p → before u (d .runs) (p .row .0) (p .index) ≡ indexAt u d (offset d p)
 index-is u d s p l =
-    sym (measured-all u (take (offset d p) (textIn (d .runs))) (every-take Character (textIn (d .runs)) (offset d p) (text-characters (d .runs) (s .runs)))
+    sym (measured-all u (take (offset d p) (charactersOf (d .runs))) (every-take Character (charactersOf (d .runs)) (offset d p) (text-characters (d .runs) (s .runs)))
     ∙ before-text u (d .runs) (p .row .0) (p .index) (l .1))

@@ -18,7 +18,8 @@ use Rattle.position.specs.Places.{Lawful, offset, total, place}
 use Rattle.position.specs.Laws.{Single}
 use Rattle.position.proofs.Places.{offset-inside}
 use Rattle.position.proofs.Laws.{answers-single}
-use Rattle.index.specs.Measured.{textIn, indexAt, Holds, Finds}
+use Rattle.position.specs.Places.{charactersOf}
+use Rattle.index.specs.Measured.{indexAt, Holds, Finds}
 use Rattle.index.specs.LineIndexes.{Ranges, LineRange}
 use Rattle.index.specs.Laws.{Singles}
 use Rattle.index.proofs.Sums.{sumAll, all-take}
@@ -31,7 +32,7 @@ module _ (u : ℕ → ℕ) (d : Document) (s : Sound d) where
       let z : a + (b - a) ≡ b = omega arith in
       let x = index-sum u d s a in
       let y = ap (indexAt u d) (sym z) ∙ index-sum u d s (a + (b - a)) in
-      let t = all-take u (textIn (d .runs)) a (b - a) in
+      let t = all-take u (charactersOf (d .runs)) a (b - a) in
       omega arith
 
   module _ (i : ℕ) where
@@ -109,7 +110,7 @@ index-back u h d s p l =
           let z : suc k ≡ k + 1 = omega arith in
           let a = index-sum u d s k in
           let b = ap (indexAt u d) (sym z) ∙ index-sum u d s (suc k) in
-          let y = text-step u h (textIn (d .runs)) k (text-characters (d .runs) (s .runs)) (omega arith) in
+          let y = text-step u h (charactersOf (d .runs)) k (text-characters (d .runs) (s .runs)) (omega arith) in
           inl (x, omega arith, omega arith))
           (λ x. let z : k ≡ total d = omega arith in inr (z, ap (indexAt u d) z))
           (cases-lt k (total d));

@@ -19,7 +19,8 @@ use Rattle.position.specs.Places.{Lawful, offsetIn, totalIn, offset, total, at,
 use Rattle.position.proofs.Options.{some-same, not-none, count-of}
 use Rattle.position.proofs.Places.{biases-inside, biases-last, offset-next, offset-inside}
 use Rattle.position.proofs.Neighbours.{offset-add, meets, meets-end}
-use Rattle.index.specs.Measured.{textIn, measured, indexAt, RunUnits, HeldIn, Holds}
+use Rattle.position.specs.Places.{charactersOf}
+use Rattle.index.specs.Measured.{measured, indexAt, RunUnits, HeldIn, Holds}
 use Rattle.index.proofs.Sums.{sumAll, measured-all, all-append, all-take, every-take, run-characters, count-chars}
 use Rattle.index.proofs.Walks.{suffix, suffix-first, first-within, Here, here-of, then-at, last-at}
 use Rattle.index.proofs.Indexes.{before, before-text, text-characters, part-units}
@@ -58,43 +59,43 @@ module _ (u : ℕ → ℕ) (d : Document) (s : Sound d) (r : ℕ) where
   held-asked n k c h w = let j : k + 1 ≤ n = omega arith in w (omega arith, subst (Within (k + 1)) c j)
 
 -- the units before an index, and those from its run on
-before-rest : (u : ℕ → ℕ) (xs : List Run) (r i : ℕ) → Within i (countIn xs r) → before u xs r i + sumAll u (textIn (suffix xs r)) ≡ sumAll u (textIn xs) + sumAll u (take i (charactersIn xs r))
+before-rest : (u : ℕ → ℕ) (xs : List Run) (r i : ℕ) → Within i (countIn xs r) → before u xs r i + sumAll u (charactersOf (suffix xs r)) ≡ sumAll u (charactersOf xs) + sumAll u (take i (charactersIn xs r))
 before-rest u [] r i w = absurd w
 before-rest u (x ∷ xs) r i w =
     ⊎-elim
     (λ q.
     let a = cond-true (eqb (x .row) r) (sumAll u (take i (x .characters))) (sumAll u (x .characters) + before u xs r i) q in
-    let b = ap (λ l. sumAll u (textIn l)) (cond-true (eqb (x .row) r) (x ∷ xs) (suffix xs r) q) in
+    let b = ap (λ l. sumAll u (charactersOf l)) (cond-true (eqb (x .row) r) (x ∷ xs) (suffix xs r) q) in
     let c = ap (λ l. sumAll u (take i l)) (cond-true (eqb (x .row) r) (x .characters) (charactersIn xs r) q) in
     omega arith)
     (λ q.
     let a = cond-false (eqb (x .row) r) (sumAll u (take i (x .characters))) (sumAll u (x .characters) + before u xs r i) q in
-    let b = ap (λ l. sumAll u (textIn l)) (cond-false (eqb (x .row) r) (x ∷ xs) (suffix xs r) q) in
+    let b = ap (λ l. sumAll u (charactersOf l)) (cond-false (eqb (x .row) r) (x ∷ xs) (suffix xs r) q) in
     let c = ap (λ l. sumAll u (take i l)) (cond-false (eqb (x .row) r) (x .characters) (charactersIn xs r) q) in
     let v = subst (Within i) (cond-false (eqb (x .row) r) (Some (count x)) (countIn xs r) q) w in
     let h = before-rest u xs r i v in
-    let t = all-append u (x .characters) (textIn xs) in
+    let t = all-append u (x .characters) (charactersOf xs) in
     omega arith)
     (cases-bool (eqb (x .row) r))
 
 -- run after run: the walk is at a run, and what is left of the unit's number
 pub record Seeks (u : ℕ → ℕ) (d : Document) (i r left : ℕ) : Type 0 where
   pub within : Within 0 (countIn (d .runs) r)
-  pub rest : i + sumAll u (textIn (suffix (d .runs) r)) ≡ left + sumAll u (textIn (d .runs))
+  pub rest : i + sumAll u (charactersOf (suffix (d .runs) r)) ≡ left + sumAll u (charactersOf (d .runs))
 
-pub text-length : (xs : List Run) → length (textIn xs) ≡ totalIn xs
+pub text-length : (xs : List Run) → length (charactersOf xs) ≡ totalIn xs
 text-length [] = refl
-text-length (x ∷ xs) = let h = text-length xs in let a = length-append (x .characters) (textIn xs) in omega arith
+text-length (x ∷ xs) = let h = text-length xs in let a = length-append (x .characters) (charactersOf xs) in omega arith
 
 module _ (u : ℕ → ℕ) (d : Document) (s : Sound d) where
   pub seeks-first : (i : ℕ) → Seeks u d i (firstRow (d .runs)) i
-  seeks-first i = record { within = first-within (d .runs) (s .listed); rest = ap (λ l. i + sumAll u (textIn l)) (suffix-first (d .runs)) }
+  seeks-first i = record { within = first-within (d .runs) (s .listed); rest = ap (λ l. i + sumAll u (charactersOf l)) (suffix-first (d .runs)) }
 
-  pub index-sum : (k : ℕ) → indexAt u d k ≡ sumAll u (take k (textIn (d .runs)))
-  index-sum k = measured-all u (take k (textIn (d .runs))) (every-take Character (textIn (d .runs)) k (text-characters (d .runs) (s .runs)))
+  pub index-sum : (k : ℕ) → indexAt u d k ≡ sumAll u (take k (charactersOf (d .runs)))
+  index-sum k = measured-all u (take k (charactersOf (d .runs))) (every-take Character (charactersOf (d .runs)) k (text-characters (d .runs) (s .runs)))
 
-  pub index-total : indexAt u d (total d) ≡ sumAll u (textIn (d .runs))
-  index-total = let l = text-length (d .runs) in index-sum (total d) ∙ ap (sumAll u) (take-all (total d) (textIn (d .runs)) (omega arith))
+  pub index-total : indexAt u d (total d) ≡ sumAll u (charactersOf (d .runs))
+  index-total = let l = text-length (d .runs) in index-sum (total d) ∙ ap (sumAll u) (take-all (total d) (charactersOf (d .runs)) (omega arith))
 
   index-before : (r i : ℕ) → Within i (countIn (d .runs) r) → indexAt u d (offsetIn (d .runs) r i) ≡ before u (d .runs) r i
   index-before r i w = index-sum (offsetIn (d .runs) r i) ∙ before-text u (d .runs) r i w
@@ -106,8 +107,8 @@ module _ (u : ℕ → ℕ) (d : Document) (s : Sound d) where
     pub seeks-more : (t : NodeId) → v ≤ left → Some t ≡ nextIn (d .runs) r → Seeks u d i (t .0) (left - v)
     seeks-more t h x =
         let y = at-run in
-        let a = ap (λ l. sumAll u (textIn l)) (y .at) ∙ all-append u (y .here .characters) (textIn (y .rest)) in
-        let b = ap (λ l. sumAll u (textIn l)) (then-at (d .runs) r y t (s .listed) x) in
+        let a = ap (λ l. sumAll u (charactersOf l)) (y .at) ∙ all-append u (y .here .characters) (charactersOf (y .rest)) in
+        let b = ap (λ l. sumAll u (charactersOf l)) (then-at (d .runs) r y t (s .listed) x) in
         let f = ap (sumAll u) (y .letters) in
         let g = k .rest in
         record { within = meets (d .runs) r n t (s .listed) c x .has; rest = omega arith }
@@ -138,10 +139,10 @@ module _ (u : ℕ → ℕ) (d : Document) (s : Sound d) where
           holds = inl (omega arith, omega arith, omega arith);
         }
 
-    at-last : None ≡ nextIn (d .runs) r → i + v ≡ left + sumAll u (textIn (d .runs))
+    at-last : None ≡ nextIn (d .runs) r → i + v ≡ left + sumAll u (charactersOf (d .runs))
     at-last x =
         let y = at-run in
-        let a = ap (λ l. sumAll u (textIn l)) (last-at (d .runs) r y x) ∙ all-append u (y .here .characters) [] in
+        let a = ap (λ l. sumAll u (charactersOf l)) (last-at (d .runs) r y x) ∙ all-append u (y .here .characters) [] in
         let f = ap (sumAll u) (y .letters) in
         let g = k .rest in
         omega arith

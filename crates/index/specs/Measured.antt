@@ -16,12 +16,7 @@ use Rattle.rows.specs.declared.refusal.Refusal.the-variants.{Beyond}
 use Rattle.source.specs.Runs.{Run, Document, charactersIn}
 use Rattle.source.specs.Pieces.{bytesOf, Asked}
 use Rattle.position.specs.declared.position.Position.{Position}
-use Rattle.position.specs.Places.{offset, total, place}
-
--- The characters of all the runs, in order.
-abbrev pub textIn : List Run → List (List ℕ)
-textIn [] = []
-textIn (x ∷ xs) = x .characters ++ textIn xs
+use Rattle.position.specs.Places.{charactersOf, offset, total, place}
 
 -- What some characters measure: the sum over the scalars of their bytes.
 abbrev pub measured : (ℕ → ℕ) → List (List ℕ) → ℕ
@@ -29,7 +24,7 @@ measured u cs = sumOf u (scalars (bytesOf cs))
 
 -- The global index of a place: what the text before it measures.
 abbrev pub indexAt : (ℕ → ℕ) → Document → ℕ → ℕ
-indexAt u d k = measured u (take k (textIn (d .runs)))
+indexAt u d k = measured u (take k (charactersOf (d .runs)))
 
 -- What a well-formed text measures; nothing where it is too long or ill-formed.
 abbrev pub MeasuresBytes : (ℕ → ℕ) → List ℕ → Option ℕ → Type 0

@@ -1,6 +1,6 @@
 -- Positions and places. A place is named by the number of characters before it.
 use mathlib.Core.Path.{_≡_}
-use mathlib.Core.List.{List, [], _∷_}
+use mathlib.Core.List.{List, [], _∷_, _++_}
 use mathlib.Core.Bool.{Bool, true, false, cond}
 use Prim.Native.Nat.{ℕ, suc, _+_, _-_, _≤_, _<_}
 use lib.Dec.{eqb, ltb}
@@ -28,6 +28,11 @@ offsetIn (x ∷ xs) r i = cond (eqb (x .row) r) i (count x + offsetIn xs r i)
 abbrev pub totalIn : List Run → ℕ
 totalIn [] = 0
 totalIn (x ∷ xs) = count x + totalIn xs
+
+-- The characters of all the runs, one run's behind the other's.
+abbrev pub charactersOf : List Run → List (List ℕ)
+charactersOf [] = []
+charactersOf (x ∷ xs) = x .characters ++ charactersOf xs
 
 -- The place that a position names.
 abbrev pub offset : Document → Position → ℕ

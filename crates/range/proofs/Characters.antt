@@ -13,9 +13,9 @@ use Rattle.std.proofs.shelf.Tests.{cases-bool, cond-true, cond-false}
 use Rattle.std.specs.declared.option.Option.the-variants.{Some, None}
 use Rattle.source.specs.Runs.{Run, Document, Sound, SoundRun, Character, Every, count, countIn, charactersIn}
 use Rattle.source.specs.Pieces.{bytesOf}
-use Rattle.position.specs.Places.{offsetIn, totalIn}
+use Rattle.position.specs.Places.{charactersOf, offsetIn, totalIn}
 use Rattle.position.proofs.Options.{some-same, not-none}
-use Rattle.range.specs.Texts.{charactersOf, between}
+use Rattle.range.specs.Texts.{between}
 
 -- a stretch of a run, as a stretch of the document
 pub piece-between : (xs : List Run) (r i j n : ℕ) → Some n ≡ countIn xs r → i ≤ j → j ≤ n →

@@ -10,14 +10,9 @@ use Rattle.rows.specs.declared.refusal.Refusal.{Refusal}
 use Rattle.rows.specs.declared.refusal.Refusal.the-variants.{BadTables, BadRow, BadRoot, BadRun, BadWords, BadLine, AtEnd, AtStart, Misplaced, Beyond, Needed}
 use Rattle.source.specs.Runs.{Run, Document}
 use Rattle.source.specs.Pieces.{bytesOf, Stripped}
-use Rattle.position.specs.Places.{offset}
+use Rattle.position.specs.Places.{charactersOf, offset}
 use Rattle.range.specs.declared.range.Range.{Range}
 use Rattle.range.specs.Ranges.{Both}
-
--- The characters of the runs, one run's behind the other's.
-abbrev pub charactersOf : List Run → List (List ℕ)
-charactersOf [] = []
-charactersOf (x ∷ xs) = x .characters ++ charactersOf xs
 
 -- The characters not before place a and before place b.
 abbrev pub between : Document → ℕ → ℕ → List (List ℕ)

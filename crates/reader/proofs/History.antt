@@ -26,7 +26,7 @@ use Rattle.range.specs.Texts.{between, bytesIn, Short, Written, Texts}
 use Rattle.range.proofs.Characters.{between-none, between-split, bytes-append}
 use Rattle.range.proofs.Laws.{why-text, text-single}
 use Rattle.reader.specs.Spans.{Span, stopsFrom, opened, spans}
-use Rattle.reader.specs.Indexes.{measured, indexOf}
+use Rattle.reader.specs.Indexes.{indexOf}
 use Rattle.reader.specs.Steps.{Call, read-on, read-back, set-start, set-end, Answer, piece, done, refused, NoOn, NoBack, Onto, Back, Step, fresh}
 use Rattle.reader.specs.Laws.{Entry, Valid, final, Orderly, StandsAt, Told, handed, why, OnOrRefused, BackOrRefused, OnBy, BackBy, All, pieceOf, onward, backward, readIf, reads, readsBack, Point, Stretch, Reads}
 use Rattle.reader.proofs.Places.{lawful-place, off-place, off-inside}

@@ -15,9 +15,10 @@ use Rattle.source.specs.Pieces.{bytesOf}
 use Rattle.position.specs.Places.{Lawful, offset, total}
 use Rattle.unit.specs.Stops.{Stops}
 use Rattle.range.specs.declared.range.Range.{Range}
-use Rattle.range.specs.Texts.{between, bytesIn, Short, Written, Texts}
+use Rattle.range.specs.Texts.{between, textOf, bytesIn, Short, Written, Texts}
 use Rattle.reader.specs.Spans.{Span, spans, Chain}
-use Rattle.reader.specs.Indexes.{measured, indexOf}
+use Rattle.index.specs.Measured.{measured}
+use Rattle.reader.specs.Indexes.{indexOf}
 use Rattle.reader.specs.Steps.{Call, read-on, read-back, set-start, set-end, Answer, piece, done, refused, Step, fresh}
 
 -- A call of a history: its answer, and the range that it left.
@@ -153,7 +154,7 @@ pub record Point (d : Document) (s : Range) : Type 0 where
   pub texts : (strip before after : List ℕ) (r : Result ℕ Refusal) → Texts d s strip before r after → Told d s strip before r after
   pub one-text : (strip before a b : List ℕ) (r q : Result ℕ Refusal) → Texts d s strip before r a → Texts d s strip before q b → (r ≡ q) × (a ≡ b)
   -- for every measure the global indexes of the ends differ by what those characters measure
-  pub indexes : (units : ℕ → ℕ) → indexOf units d (s .end) ≡ indexOf units d (s .start) + measured units (bytesIn d s)
+  pub indexes : (units : ℕ → ℕ) → indexOf units d (s .end) ≡ indexOf units d (s .start) + measured units (textOf d s)
   -- a refused call changes neither the range nor the buffer
   pub unchanged : (c : Call) (e : Refusal) (a : List ℕ) (t : Range) → Step d s c (refused e a) t → (t ≡ s) × (a ≡ handed c)
   -- one answer fits each call, and one range after it
