@@ -147,11 +147,11 @@ count-few (x ∷ xs) r n s e =
     (cases-bool (eqb (x .row) r))
 
 -- The masked piece is the front of the strip.
-pub masked-piece : (xs : List Run) (r i j n : ℕ) (strip : List ℕ) → Some n ≡ countIn xs r → i ≤ j → j ≤ n → n ≤ 255 → strip ≡ fullStrip → take (3 * (j - i) - 0) (drop 0 strip) ≡ pieceIn (each maskedRun xs) r i j
-masked-piece xs r i j n strip c h k l e =
+pub masked-piece : (xs : List Run) (r i j n : ℕ) (strip : List ℕ) → Some n ≡ countIn xs r → i ≤ j → j ≤ n → n ≤ 255 → strip ≡ fullStrip → (got : List ℕ) → got ≡ take (3 * (j - i) - 0) (drop 0 strip) → got ≡ pieceIn (each maskedRun xs) r i j
+masked-piece xs r i j n strip c h k l e got g =
     let z = count-characters xs r n c in
     let o : 3 * (j - i) - 0 ≡ 3 * (j - i) = omega arith in
-    ap (λ m. take m strip) o ∙ ap (take (3 * (j - i))) (e ∙ full) ∙ strip-take 255 (j - i) (omega arith)
+    g ∙ ap (λ m. take m strip) o ∙ ap (take (3 * (j - i))) (e ∙ full) ∙ strip-take 255 (j - i) (omega arith)
     ∙ sym (ap (λ cs. bytesOf (take (j - i) (drop i cs))) (masked-characters xs r) ∙ bullets-bytes (length (charactersIn xs r)) i (j - i) (omega arith))
 
 -- The strip has room for it.

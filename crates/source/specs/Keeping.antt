@@ -8,15 +8,18 @@ use lib.Dec.{lit<, lit≤}
 use Rattle.unicode.specs.Table.{WellFormed}
 use Rattle.unicode.specs.Table.WellFormed.{empty, row4}
 use Rattle.source.specs.declared.layered.Layered.{Layered}
-use Rattle.source.specs.declared.layered.Layered.the-variants.{Plain, Unworded, Masked}
+use Rattle.source.specs.declared.layered.Layer.{Layer}
+use Rattle.source.specs.declared.layered.Layer.the-variants.{Plain, Unworded, Masked}
 use Rattle.source.specs.Runs.{Run, Document, count, bullet, Every, Character, Rising, SoundRun, Lacks, Listed, Bulleted, Sound}
 use Rattle.source.specs.Pieces.{bullets}
-use Rattle.source.specs.Layers.{each, maskedRun, maskedDoc, unwordedRun, unwordedDoc, layeredDoc}
+use Rattle.source.specs.Layers.{each, maskedRun, maskedDoc, unwordedRun, unwordedDoc, docThrough, layeredDoc}
 
+-- So many bullets are that many.
 pub bullets-length : (n : ℕ) → length (bullets n) ≡ n
 bullets-length zero = refl
 bullets-length (suc n) = ap suc (bullets-length n)
 
+-- f of each element keeps their number.
 pub each-length : {A B : Type 0} (f : A → B) (xs : List A) → length (each f xs) ≡ length xs
 each-length f [] = refl
 each-length f (x ∷ xs) = ap suc (each-length f xs)
@@ -37,6 +40,7 @@ module _ (f : Run → Run) (k : Keeps f) where
   keeps-lacks r [] h = tt
   keeps-lacks r (x ∷ xs) h = (λ e. h .0 (sym (k .row x) ∙ e), keeps-lacks r xs (h .1))
 
+  -- It keeps a source's list one.
   pub keeps-listed : (xs : List Run) → Listed xs → Listed (each f xs)
   keeps-listed [] h = h
   keeps-listed (x ∷ []) h = k .joined x ∙ h
@@ -58,9 +62,11 @@ bullets-every : (P : List ℕ → Type 0) → P bullet → (n : ℕ) → Every P
 bullets-every P h zero = tt
 bullets-every P h (suc n) = (h, bullets-every P h n)
 
+-- Masking keeps rows, joins and counts.
 pub masked-keeps : Keeps maskedRun
 masked-keeps = record { row = λ x. refl; joined = λ x. refl; counted = λ x. bullets-length (count x) }
 
+-- So does unwording.
 pub unworded-keeps : Keeps unwordedRun
 unworded-keeps = record { row = λ x. refl; joined = λ x. refl; counted = λ x. refl }
 
@@ -75,6 +81,7 @@ all-bulleted : (xs : List Run) → Every Bulleted (each maskedRun xs)
 all-bulleted [] = tt
 all-bulleted (x ∷ xs) = (bullets-every (λ c. c ≡ bullet) refl (count x), all-bulleted xs)
 
+-- A masked source is sound.
 pub masked-sound : (d : Document) → Sound d → Sound (maskedDoc d)
 masked-sound d h = record {
   few = subst (λ n. n ≤ 1024) (sym (each-length maskedRun (d .runs))) (h .few);
@@ -86,6 +93,7 @@ masked-sound d h = record {
 unworded-run : (x : Run) → SoundRun x → SoundRun (unwordedRun x)
 unworded-run x h = record { few = h .few; characters = h .characters; words = tt }
 
+-- An unworded source is sound.
 pub unworded-sound : (d : Document) → Sound d → Sound (unwordedDoc d)
 unworded-sound d h = record {
   few = subst (λ n. n ≤ 1024) (sym (each-length unwordedRun (d .runs))) (h .few);
@@ -94,7 +102,11 @@ unworded-sound d h = record {
   bulleted = λ e. each-every Bulleted Bulleted unwordedRun (λ x b. b) (d .runs) (h .bulleted e);
 }
 
+through-sound : (l : Layer) (d : Document) → Sound d → Sound (docThrough l d)
+through-sound Plain d h = h
+through-sound Unworded d h = unworded-sound d h
+through-sound Masked d h = masked-sound (unwordedDoc d) (unworded-sound d h)
+
+-- A pile of layers is sound, however much of it is read.
 pub layered-sound : {S : Type 0} (m : S → Document) → ((s : S) → Sound (m s)) → (l : Layered S) → Sound (layeredDoc m l)
-layered-sound m h (Plain s) = h s
-layered-sound m h (Unworded u) = unworded-sound (m (u .inner)) (h (u .inner))
-layered-sound m h (Masked k) = masked-sound (unwordedDoc (m (k .inner .inner))) (unworded-sound (m (k .inner .inner)) (h (k .inner .inner)))
+layered-sound m h l = through-sound (l .layer) (m (l .stack .inner .inner)) (h (l .stack .inner .inner))

@@ -2,7 +2,8 @@
 use mathlib.Core.List.{List, [], _∷_}
 use mathlib.Core.Bool.{true}
 use Rattle.source.specs.declared.layered.Layered.{Layered}
-use Rattle.source.specs.declared.layered.Layered.the-variants.{Plain, Unworded, Masked}
+use Rattle.source.specs.declared.layered.Layer.{Layer}
+use Rattle.source.specs.declared.layered.Layer.the-variants.{Plain, Unworded, Masked}
 use Rattle.source.specs.Runs.{Run, Document, count}
 use Rattle.source.specs.Pieces.{bullets}
 
@@ -27,8 +28,12 @@ unwordedRun x = record { row = x .row; characters = x .characters; words = []; j
 abbrev pub unwordedDoc : Document → Document
 unwordedDoc d = record { root = d .root; masked = d .masked; runs = each unwordedRun (d .runs) }
 
--- What a choice of layers means, where m says what the source below them means.
+-- What a pile of layers means by how much of it is read, over a document.
+abbrev pub docThrough : Layer → Document → Document
+docThrough Plain d = d
+docThrough Unworded d = unwordedDoc d
+docThrough Masked d = maskedDoc (unwordedDoc d)
+
+-- What a pile of layers means, where m says what the source below them means.
 abbrev pub layeredDoc : {S : Type 0} → (S → Document) → Layered S → Document
-layeredDoc m (Plain s) = m s
-layeredDoc m (Unworded u) = unwordedDoc (m (u .inner))
-layeredDoc m (Masked k) = maskedDoc (unwordedDoc (m (k .inner .inner)))
+layeredDoc m l = docThrough (l .layer) (m (l .stack .inner .inner))

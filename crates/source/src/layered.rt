@@ -12,11 +12,32 @@ use crate::unworded::UnwordedSource;
 use rows::node::NodeId;
 use rows::refusal::Refusal;
 
+// How much of the pile is read.
 #[derive(Clone, Copy)]
-pub enum Layered<S> {
-    Plain(S),
-    Unworded(Unworded<S>),
-    Masked(Masked<Unworded<S>>),
+pub enum Layer {
+    Plain,
+    Unworded,
+    Masked,
+}
+
+// The whole pile, and how much of it is read: an enum could not hold a page, which has references and
+// facts about them.
+#[derive(Clone, Copy)]
+pub struct Layered<S> {
+    stack: Masked<Unworded<S>>,
+    layer: Layer,
+}
+
+impl<S> Layered<S> {
+    pub fn new(inner: S, layer: Layer) -> Layered<S>
+        ensures inner { λ r. ⌜ r .stack .inner .inner ≡ inner ⌝ }
+        ensures layer { λ r. ⌜ r .layer ≡ layer ⌝ }
+    {
+        Layered {
+            stack: Masked::new(Unworded::new(inner)),
+            layer,
+        }
+    }
 }
 
 pub impl<S: Source> Source for Layered<S> as LayeredSource {
@@ -25,106 +46,106 @@ pub impl<S: Source> Source for Layered<S> as LayeredSource {
     ghost sound = { λ l. layered-sound (S·Source .doc) (S·Source .sound) l };
 
     fn root(&self) -> NodeId {
-        match self {
-            Layered::Plain(s) => s.root(),
-            Layered::Unworded(s) => s.root(),
-            Layered::Masked(s) => s.root(),
+        match self.layer {
+            Layer::Plain => self.stack.inner.inner.root(),
+            Layer::Unworded => self.stack.inner.root(),
+            Layer::Masked => self.stack.root(),
         }
     }
 
     fn is_masked(&self) -> bool {
-        match self {
-            Layered::Plain(s) => s.is_masked(),
-            Layered::Unworded(s) => s.is_masked(),
-            Layered::Masked(s) => s.is_masked(),
+        match self.layer {
+            Layer::Plain => self.stack.inner.inner.is_masked(),
+            Layer::Unworded => self.stack.inner.is_masked(),
+            Layer::Masked => self.stack.is_masked(),
         }
     }
 
     fn first(&self) -> NodeId {
-        match self {
-            Layered::Plain(s) => s.first(),
-            Layered::Unworded(s) => s.first(),
-            Layered::Masked(s) => s.first(),
+        match self.layer {
+            Layer::Plain => self.stack.inner.inner.first(),
+            Layer::Unworded => self.stack.inner.first(),
+            Layer::Masked => self.stack.first(),
         }
     }
 
     fn last(&self) -> NodeId {
-        match self {
-            Layered::Plain(s) => s.last(),
-            Layered::Unworded(s) => s.last(),
-            Layered::Masked(s) => s.last(),
+        match self.layer {
+            Layer::Plain => self.stack.inner.inner.last(),
+            Layer::Unworded => self.stack.inner.last(),
+            Layer::Masked => self.stack.last(),
         }
     }
 
     fn next(&self, row: NodeId) -> Option<NodeId> {
-        match self {
-            Layered::Plain(s) => s.next(row),
-            Layered::Unworded(s) => s.next(row),
-            Layered::Masked(s) => s.next(row),
+        match self.layer {
+            Layer::Plain => self.stack.inner.inner.next(row),
+            Layer::Unworded => self.stack.inner.next(row),
+            Layer::Masked => self.stack.next(row),
         }
     }
 
     fn previous(&self, row: NodeId) -> Option<NodeId> {
-        match self {
-            Layered::Plain(s) => s.previous(row),
-            Layered::Unworded(s) => s.previous(row),
-            Layered::Masked(s) => s.previous(row),
+        match self.layer {
+            Layer::Plain => self.stack.inner.inner.previous(row),
+            Layer::Unworded => self.stack.inner.previous(row),
+            Layer::Masked => self.stack.previous(row),
         }
     }
 
     fn character_count(&self, row: NodeId) -> Option<usize> {
-        match self {
-            Layered::Plain(s) => s.character_count(row),
-            Layered::Unworded(s) => s.character_count(row),
-            Layered::Masked(s) => s.character_count(row),
+        match self.layer {
+            Layer::Plain => self.stack.inner.inner.character_count(row),
+            Layer::Unworded => self.stack.inner.character_count(row),
+            Layer::Masked => self.stack.character_count(row),
         }
     }
 
     fn is_joined(&self, row: NodeId) -> Option<bool> {
-        match self {
-            Layered::Plain(s) => s.is_joined(row),
-            Layered::Unworded(s) => s.is_joined(row),
-            Layered::Masked(s) => s.is_joined(row),
+        match self.layer {
+            Layer::Plain => self.stack.inner.inner.is_joined(row),
+            Layer::Unworded => self.stack.inner.is_joined(row),
+            Layer::Masked => self.stack.is_joined(row),
         }
     }
 
     fn has_break(&self, row: NodeId) -> Option<bool> {
-        match self {
-            Layered::Plain(s) => s.has_break(row),
-            Layered::Unworded(s) => s.has_break(row),
-            Layered::Masked(s) => s.has_break(row),
+        match self.layer {
+            Layer::Plain => self.stack.inner.inner.has_break(row),
+            Layer::Unworded => self.stack.inner.has_break(row),
+            Layer::Masked => self.stack.has_break(row),
         }
     }
 
     fn character_length(&self, row: NodeId, index: usize) -> Option<usize> {
-        match self {
-            Layered::Plain(s) => s.character_length(row, index),
-            Layered::Unworded(s) => s.character_length(row, index),
-            Layered::Masked(s) => s.character_length(row, index),
+        match self.layer {
+            Layer::Plain => self.stack.inner.inner.character_length(row, index),
+            Layer::Unworded => self.stack.inner.character_length(row, index),
+            Layer::Masked => self.stack.character_length(row, index),
         }
     }
 
     fn word_start_from(&self, row: NodeId, index: usize) -> Option<usize> {
-        match self {
-            Layered::Plain(s) => s.word_start_from(row, index),
-            Layered::Unworded(s) => s.word_start_from(row, index),
-            Layered::Masked(s) => s.word_start_from(row, index),
+        match self.layer {
+            Layer::Plain => self.stack.inner.inner.word_start_from(row, index),
+            Layer::Unworded => self.stack.inner.word_start_from(row, index),
+            Layer::Masked => self.stack.word_start_from(row, index),
         }
     }
 
     fn word_start_before(&self, row: NodeId, index: usize) -> Option<usize> {
-        match self {
-            Layered::Plain(s) => s.word_start_before(row, index),
-            Layered::Unworded(s) => s.word_start_before(row, index),
-            Layered::Masked(s) => s.word_start_before(row, index),
+        match self.layer {
+            Layer::Plain => self.stack.inner.inner.word_start_before(row, index),
+            Layer::Unworded => self.stack.inner.word_start_before(row, index),
+            Layer::Masked => self.stack.word_start_before(row, index),
         }
     }
 
     fn is_before(&self, one: NodeId, other: NodeId) -> bool {
-        match self {
-            Layered::Plain(s) => s.is_before(one, other),
-            Layered::Unworded(s) => s.is_before(one, other),
-            Layered::Masked(s) => s.is_before(one, other),
+        match self.layer {
+            Layer::Plain => self.stack.inner.inner.is_before(one, other),
+            Layer::Unworded => self.stack.inner.is_before(one, other),
+            Layer::Masked => self.stack.is_before(one, other),
         }
     }
 
@@ -135,10 +156,10 @@ pub impl<S: Source> Source for Layered<S> as LayeredSource {
         behind: usize,
         strip: &'b [u8],
     ) -> Result<&'b [u8], Refusal> {
-        match self {
-            Layered::Plain(s) => s.piece(row, first, behind, strip),
-            Layered::Unworded(s) => s.piece(row, first, behind, strip),
-            Layered::Masked(s) => s.piece(row, first, behind, strip),
+        match self.layer {
+            Layer::Plain => self.stack.inner.inner.piece(row, first, behind, strip),
+            Layer::Unworded => self.stack.inner.piece(row, first, behind, strip),
+            Layer::Masked => self.stack.piece(row, first, behind, strip),
         }
     }
 }

@@ -4,13 +4,14 @@ ghost use mathlib.Core.Path.{_≡_};
 ghost use Rattle.source.specs.Layers.{maskedDoc};
 ghost use Rattle.source.specs.Keeping.{masked-sound};
 use crate::source::Source;
-use crate::strip::{is_strip, part};
+use crate::strip::is_strip;
+use crate::strip::part;
 use rows::node::NodeId;
 use rows::refusal::Refusal;
 
 #[derive(Clone, Copy)]
 pub struct Masked<S> {
-    inner: S,
+    pub(crate) inner: S,
 }
 
 impl<S> Masked<S> {

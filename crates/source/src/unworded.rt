@@ -8,7 +8,7 @@ use rows::refusal::Refusal;
 
 #[derive(Clone, Copy)]
 pub struct Unworded<S> {
-    inner: S,
+    pub(crate) inner: S,
 }
 
 impl<S> Unworded<S> {

@@ -1,4 +1,4 @@
-use mathlib.Core.Path.{_≡_, refl, sym, _∙_}
+use mathlib.Core.Path.{_≡_, refl}
 use mathlib.Core.Bool.{true, false}
 use Prim.Native.Nat.{ℕ, _*_, _-_, _≤_}
 use native.Mathlib.Omega.{arith}
@@ -38,7 +38,7 @@ returns-in-Some-part g c =
     let s = c .if-not-is-strip .ensures tt .0 refl in (
       asked-masked d (c .args .row .0) (c .args .first) (c .args .behind) (c .in-Some .count) (c .in-Some .ensures tt) (c .if-first-behind .left) (c .if-behind-count .left),
       (λ e. s),
-      c .in-Some-part .ensures tt .2 ∙ masked-piece (d .runs) (c .args .row .0) (c .args .first) (c .args .behind) (c .in-Some .count) (c .args .strip .now) (c .in-Some .ensures tt) (c .if-first-behind .left) (c .if-behind-count .left) k s,
+      masked-piece (d .runs) (c .args .row .0) (c .args .first) (c .args .behind) (c .in-Some .count) (c .args .strip .now) (c .in-Some .ensures tt) (c .if-first-behind .left) (c .if-behind-count .left) k s (c .in-Some-part .bullets .now) (c .in-Some-part .ensures tt .2),
     )
 
 pub returns-in-None : need.returns-in-None
