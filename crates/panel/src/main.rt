@@ -1,70 +1,92 @@
 // The talking panel's program: it reads commands from standard input, one a line, and prints one line
 // for each call. docs/PANEL.md has the commands and what they print.
 mod input;
+mod page_calls;
+mod position_calls;
+mod range_calls;
+mod reader_calls;
+mod reply;
+mod serve;
+mod strip;
 mod tables;
 mod text_calls;
 mod tree_calls;
 mod words;
 
 use crate::input::Input;
+use crate::reply::Reply;
+use crate::reply::print_reply;
+use crate::serve::serve_page;
+use crate::strip::Strip;
 use crate::tables::Builder;
 use crate::text_calls::answer_text;
-use crate::tree_calls::serve_tree;
+use crate::tree_calls::answer_judge;
 use crate::words::*;
-use std::error::AnyError;
 use rows::node::NodeId;
-use tree::tree::Tree;
+use std::alloc::AllocError;
+use std::error::AnyError;
 
-// `judge ROOT`: what judging the tables finds; then, where they are sound, the tree calls that follow.
-fn answer_judge(rt: &LibcRuntime, input: &mut Input, tables: &Builder, root: NodeId) -> Result<(), AnyError> {
-    let (tree, refusal) = Tree::judge(tables.lend(), root);
-    match refusal {
-        None => {
-            println!(rt, "= sound")?;
-            serve_tree(rt, input, &tree)
-        }
-        Some(refusal) => print_refusal(rt, refusal),
+// The commands that need no page. What no part of the program knows is unknown, or wants a page.
+fn answer(rt: &LibcRuntime, tables: &mut Builder, strip: &mut Strip, verb: &str, mut words: Words<'_>) -> Result<Reply, AllocError> {
+    if verb == "judge" {
+        return Ok(answer_judge(tables.lend(), &mut words));
     }
+    if let Some(reply) = tables.change(rt.alloc(), verb, &mut words)? {
+        return Ok(reply);
+    }
+    if let Some(reply) = strip.change(rt.alloc(), verb, &mut words)? {
+        return Ok(reply);
+    }
+    answer_text(rt.alloc(), verb, &mut words)
 }
 
-// The commands but `judge`, while there is no tree.
-fn answer(rt: &LibcRuntime, tables: &mut Builder, line: &[u8]) -> Outcome {
+// What a line asks of the program as a whole.
+enum Ask {
+    Nothing,
+    Open(NodeId),
+    Wrong(&'static str),
+    Other,
+}
+
+fn asked(line: &[u8]) -> Ask {
     let Some(mut words) = Words::of(line) else {
-        return Ok(Some(NO_TEXT));
+        return Ask::Wrong(NO_TEXT);
     };
-    match words.next() {
-        Some("row") => tables.add_row(words),
-        Some("child") => tables.add_children(rt.alloc(), words),
-        Some("text") => tables.add_text(rt.alloc(), words),
-        Some("length") => tables.add_lengths(rt.alloc(), words),
-        Some("word") => tables.add_words(rt.alloc(), words),
-        Some("clear") => tables.clear(words),
-        Some("parent_and_index" | "path" | "first" | "last" | "next" | "previous") => Ok(Some(NO_TREE)),
-        verb => answer_text(rt, verb, words),
+    let Some(verb) = words.next() else {
+        return Ask::Nothing;
+    };
+    match verb {
+        "open" => match words.only_row() {
+            Some(root) => Ask::Open(root),
+            None => Ask::Wrong(NO_NUMBER),
+        },
+        _ => Ask::Other,
     }
 }
 
-// The root that a `judge` command names; nothing where the line is another command.
-fn judged_root(line: &[u8]) -> Option<Option<NodeId>> {
-    let mut words = Words::of(line)?;
-    if words.next() != Some("judge") {
-        return None;
-    }
-    let root = words.row();
-    Some(if words.are_done() { root } else { None })
+fn answer_other(rt: &LibcRuntime, tables: &mut Builder, strip: &mut Strip, line: &[u8]) -> Result<Reply, AllocError> {
+    let Some(mut words) = Words::of(line) else {
+        return Ok(Reply::Silent);
+    };
+    let Some(verb) = words.next() else {
+        return Ok(Reply::Silent);
+    };
+    answer(rt, tables, strip, verb, words)
 }
 
 fn main(rt: LibcRuntime) -> Result<(), AnyError> {
     let mut input = Input::new(&rt);
     let mut tables = Builder::new(rt.alloc());
+    let mut strip = Strip::bullets(rt.alloc())?;
     for _ in 0..u64::MAX {
         if !input.advance()? {
             break;
         }
-        match judged_root(input.line()) {
-            Some(Some(root)) => answer_judge(&rt, &mut input, &tables, root)?,
-            Some(None) => println!(rt, "? {NO_NUMBER}")?,
-            None => print_wrong(&rt, answer(&rt, &mut tables, input.line())?)?,
+        match asked(input.line()) {
+            Ask::Nothing => {}
+            Ask::Open(root) => serve_page(&rt, &mut input, &mut strip, tables.lend(), root)?,
+            Ask::Wrong(text) => print_reply(&rt, &Reply::Wrong(text))?,
+            Ask::Other => print_reply(&rt, &answer_other(&rt, &mut tables, &mut strip, input.line())?)?,
         }
     }
     Ok(())

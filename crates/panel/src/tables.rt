@@ -1,11 +1,13 @@
-// The tables as they are built line by line, before they are judged.
+// The tables as they are built line by line, before a page is opened on them.
+use crate::reply::Reply;
 use crate::words::*;
-use std::alloc::Global;
 use rows::node::NodeId;
 use rows::node::Part;
 use rows::node::Row;
 use rows::node::Tables;
 use rows::node::TreeIndex;
+use std::alloc::AllocError;
+use std::alloc::Global;
 
 #[derive(Drop)]
 pub struct Builder {
@@ -30,13 +32,6 @@ fn mark(words: &mut Words<'_>) -> Option<bool> {
         1 => Some(true),
         _ => None,
     }
-}
-
-fn append(table: &mut Vec<u8>, entries: &Vec<u8>) -> Outcome {
-    for entry in entries.iter() {
-        table.push(*entry)?;
-    }
-    Ok(None)
 }
 
 // ROLE HIDDEN TREE PARENT INDEX PREVIOUS NEXT, then start and count of the row's part of the child
@@ -68,6 +63,36 @@ fn row(words: &mut Words<'_>) -> Option<Row> {
     })
 }
 
+// Numbers of 8 bits; nothing where one is larger.
+fn smalls(heap: Global, numbers: &[u16]) -> Result<Option<Vec<u8>>, AllocError> {
+    let mut all = Vec::new(heap);
+    for n in numbers {
+        if *n > 255 {
+            return Ok(None);
+        }
+        all.push(*n as u8)?;
+    }
+    Ok(Some(all))
+}
+
+fn append(table: &mut Vec<u8>, entries: &[u8]) -> Result<Reply, AllocError> {
+    for entry in entries {
+        table.push(*entry)?;
+    }
+    Ok(Reply::Silent)
+}
+
+// Appends the numbers that are left of the line, each of 8 bits.
+fn append_smalls(heap: Global, table: &mut Vec<u8>, words: &mut Words<'_>) -> Result<Reply, AllocError> {
+    let Some(numbers) = words.numbers(heap)? else {
+        return Ok(Reply::Wrong(NO_NUMBER));
+    };
+    match smalls(heap, numbers.as_slice())? {
+        Some(entries) => append(table, entries.as_slice()),
+        None => Ok(Reply::Wrong(NO_NUMBER)),
+    }
+}
+
 impl Builder {
     pub fn new(heap: Global) -> Builder {
         Builder {
@@ -89,61 +114,60 @@ impl Builder {
         }
     }
 
-    pub fn add_row(&mut self, mut words: Words<'_>) -> Outcome {
-        let Some(row) = row(&mut words) else {
-            return Ok(Some(NO_NUMBER));
+    fn add_row(&mut self, words: &mut Words<'_>) -> Result<Reply, AllocError> {
+        let Some(row) = row(words) else {
+            return Ok(Reply::Wrong(NO_NUMBER));
         };
         if !words.are_done() {
-            return Ok(Some(TOO_MANY));
+            return Ok(Reply::Wrong(TOO_MANY));
         }
         self.rows.push(row)?;
-        Ok(None)
+        Ok(Reply::Silent)
     }
 
-    pub fn add_children(&mut self, heap: Global, words: Words<'_>) -> Outcome {
+    fn add_children(&mut self, heap: Global, words: &mut Words<'_>) -> Result<Reply, AllocError> {
         let Some(ids) = words.numbers(heap)? else {
-            return Ok(Some(NO_NUMBER));
+            return Ok(Reply::Wrong(NO_NUMBER));
         };
         for id in ids.iter() {
             self.children.push(NodeId(*id))?;
         }
-        Ok(None)
+        Ok(Reply::Silent)
     }
 
-    pub fn add_text(&mut self, heap: Global, mut words: Words<'_>) -> Outcome {
+    fn add_text(&mut self, heap: Global, words: &mut Words<'_>) -> Result<Reply, AllocError> {
         let Some(bytes) = words.bytes(heap)? else {
-            return Ok(Some(NO_BYTES));
+            return Ok(Reply::Wrong(NO_BYTES));
         };
         if !words.are_done() {
-            return Ok(Some(TOO_MANY));
+            return Ok(Reply::Wrong(TOO_MANY));
         }
-        append(&mut self.text, &bytes)
+        append(&mut self.text, bytes.as_slice())
     }
 
-    pub fn add_lengths(&mut self, heap: Global, words: Words<'_>) -> Outcome {
-        let Some(lengths) = words.smalls(heap)? else {
-            return Ok(Some(NO_NUMBER));
-        };
-        append(&mut self.lengths, &lengths)
-    }
-
-    pub fn add_words(&mut self, heap: Global, words: Words<'_>) -> Outcome {
-        let Some(starts) = words.smalls(heap)? else {
-            return Ok(Some(NO_NUMBER));
-        };
-        append(&mut self.words, &starts)
-    }
-
-    // Empties every table.
-    pub fn clear(&mut self, mut words: Words<'_>) -> Outcome {
+    fn clear(&mut self, words: &mut Words<'_>) -> Reply {
         if !words.are_done() {
-            return Ok(Some(TOO_MANY));
+            return Reply::Wrong(TOO_MANY);
         }
         self.rows.clear();
         self.children.clear();
         self.text.clear();
         self.lengths.clear();
         self.words.clear();
-        Ok(None)
+        Reply::Silent
+    }
+
+    // Carries out a command that changes the tables; nothing where the verb is another.
+    pub fn change(&mut self, heap: Global, verb: &str, words: &mut Words<'_>) -> Result<Option<Reply>, AllocError> {
+        let reply = match verb {
+            "row" => self.add_row(words)?,
+            "child" => self.add_children(heap, words)?,
+            "text" => self.add_text(heap, words)?,
+            "length" => append_smalls(heap, &mut self.lengths, words)?,
+            "word" => append_smalls(heap, &mut self.words, words)?,
+            "clear" => self.clear(words),
+            _ => return Ok(None),
+        };
+        Ok(Some(reply))
     }
 }

@@ -1,42 +1,21 @@
 // The words of a line, and what they stand for.
+use position::position::Position;
+use rows::node::NodeId;
 use std::alloc::AllocError;
 use std::alloc::Global;
-use std::error::AnyError;
 use std::str::SplitWhitespace;
-use rows::node::NodeId;
-use rows::refusal::Refusal;
-
-// What is wrong with a line; nothing where it was answered.
-pub type Outcome = Result<Option<&'static str>, AnyError>;
 
 pub const NO_TEXT: &str = "not a line of text";
 pub const UNKNOWN: &str = "unknown command";
 pub const NO_BYTES: &str = "not bytes in hexadecimal digits";
 pub const NO_NUMBER: &str = "not the numbers that the command takes";
+pub const NO_POSITION: &str = "not the positions that the command takes: ROOT:ROW:INDEX";
 pub const NO_FILTER: &str = "not a filter: text or field";
-pub const NO_TREE: &str = "no tree: judge the tables first";
+pub const NO_UNIT: &str = "not a unit: character, word, line or paragraph";
+pub const NO_PAGE: &str = "no page is open";
+pub const NO_READER: &str = "no reader is open";
+pub const NO_MEMORY: &str = "no memory for such a buffer";
 pub const TOO_MANY: &str = "more words than the command takes";
-
-pub fn print_wrong(rt: &LibcRuntime, wrong: Option<&'static str>) -> Result<(), AnyError> {
-    if let Some(text) = wrong {
-        println!(rt, "? {text}")?;
-    }
-    Ok(())
-}
-
-// A refusal's number, with the row or the bytes that go with it.
-pub fn print_refusal(rt: &LibcRuntime, refusal: Refusal) -> Result<(), AnyError> {
-    let number = refusal.number();
-    match (refusal.row(), refusal.needed()) {
-        (Some(row), _) => {
-            let row = row.0;
-            println!(rt, "! {number} {row}")?;
-        }
-        (None, Some(bytes)) => println!(rt, "! {number} {bytes}")?,
-        (None, None) => println!(rt, "! {number}")?,
-    }
-    Ok(())
-}
 
 // The value of a hexadecimal digit.
 fn digit(byte: u8) -> Option<u8> {
@@ -49,7 +28,7 @@ fn digit(byte: u8) -> Option<u8> {
 }
 
 // The bytes that hexadecimal digits spell; nothing where some are missing or are none.
-fn unhex(heap: Global, text: &str) -> Result<Option<Vec<u8>>, AllocError> {
+pub fn unhex(heap: Global, text: &str) -> Result<Option<Vec<u8>>, AllocError> {
     let mut bytes = Vec::new(heap);
     for pair in text.as_bytes().chunks(2) {
         let [high, low] = pair else {
@@ -61,6 +40,32 @@ fn unhex(heap: Global, text: &str) -> Result<Option<Vec<u8>>, AllocError> {
         bytes.push((h & 0x0F) * 0x10 + (l & 0x0F))?;
     }
     Ok(Some(bytes))
+}
+
+fn row_of(word: &str) -> Option<NodeId> {
+    match word.parse::<u16>() {
+        Ok(n) => Some(NodeId(n)),
+        Err(_) => None,
+    }
+}
+
+fn size_of(word: &str) -> Option<usize> {
+    match word.parse::<usize>() {
+        Ok(n) => Some(n),
+        Err(_) => None,
+    }
+}
+
+// ROOT:ROW:INDEX
+fn position_of(word: &str) -> Option<Position> {
+    let mut parts = word.split(':');
+    let root = row_of(parts.next()?)?;
+    let row = row_of(parts.next()?)?;
+    let index = size_of(parts.next()?)?;
+    if parts.next().is_some() {
+        return None;
+    }
+    Some(Position { root, row, index })
 }
 
 #[derive(Drop)]
@@ -106,27 +111,32 @@ impl<'a> Words<'a> {
         }
     }
 
+    pub fn size(&mut self) -> Option<usize> {
+        size_of(self.rest.next()?)
+    }
+
     pub fn row(&mut self) -> Option<NodeId> {
-        Some(NodeId(self.number()?))
+        row_of(self.rest.next()?)
+    }
+
+    // A row, and no word behind it.
+    pub fn only_row(&mut self) -> Option<NodeId> {
+        let row = self.row()?;
+        if self.are_done() { Some(row) } else { None }
+    }
+
+    pub fn position(&mut self) -> Option<Position> {
+        position_of(self.rest.next()?)
     }
 
     // All the words that are left as numbers, or nothing where one is none.
-    pub fn numbers(self, heap: Global) -> Result<Option<Vec<u16>>, AllocError> {
+    pub fn numbers(&mut self, heap: Global) -> Result<Option<Vec<u16>>, AllocError> {
         let mut all = Vec::new(heap);
-        for word in self.rest {
-            let Ok(n) = word.parse::<u16>() else {
-                return Ok(None);
+        for _ in 0..u64::MAX {
+            let Some(word) = self.rest.next() else {
+                break;
             };
-            all.push(n)?;
-        }
-        Ok(Some(all))
-    }
-
-    // All the words that are left as numbers of 8 bits, or nothing where one is none.
-    pub fn smalls(self, heap: Global) -> Result<Option<Vec<u8>>, AllocError> {
-        let mut all = Vec::new(heap);
-        for word in self.rest {
-            let Ok(n) = word.parse::<u8>() else {
+            let Ok(n) = word.parse::<u16>() else {
                 return Ok(None);
             };
             all.push(n)?;
