@@ -3,7 +3,11 @@
 # reach the prover, so each of these is applied here to a copy of its crate, and must be refused with
 # the error that it names.
 # Each file: 'crate:', 'want:' (the error's name), 'file:', 'old:' (standing once), 'new:'.
+#
+#   misuse/check.sh alone     the edits of crates that use no other crate: nothing has to be built
+#   misuse/check.sh built     the edits of the other crates, over the libraries in target/rlib
 cd "$(dirname "$0")/.." || exit 2
+case ${1:-} in alone | built) part=$1 ;; *) echo "usage: misuse/check.sh alone | built"; exit 2 ;; esac
 work=$(mktemp -d) || exit 2
 trap 'rm -rf "$work"' EXIT
 field() { sed -n "s/^$1: //p" "$2"; }
@@ -11,14 +15,16 @@ tried=0
 bad=0
 for edit in misuse/*.edit; do
     [ -f "$edit" ] || continue
-    tried=$((tried + 1))
     crate=$(field crate "$edit") want=$(field want "$edit") file=$(field file "$edit")
     if [ -z "$crate" ] || [ -z "$want" ] || [ ! -f "crates/$crate/$file" ]; then
         echo "$edit: names no crate, error or file"
         bad=1
         continue
     fi
-    deps=$(sed -n "s/^$crate: *//p" crates.txt | tr -s ' ' ',' | sed 's/,$//')
+    deps=$(sed -n "s/^$crate: *//p" crates.txt)
+    if [ -z "$deps" ]; then kind=alone; else kind=built; fi
+    [ "$kind" = "$part" ] || continue
+    tried=$((tried + 1))
     rm -rf "$work/$crate"
     cp -R "crates/$crate" "$work/$crate"
     if ! OLD=$(field old "$edit") NEW=$(field new "$edit") awk '
@@ -31,11 +37,14 @@ for edit in misuse/*.edit; do
         bad=1
         continue
     fi
-    log=$(rt check "$work/$crate" ${deps:+--deps "$deps"} 2>&1)
+    set --
+    for dep in $deps; do set -- "$@" --extern "$dep=$PWD/target/rlib/$dep.rlib"; done
+    log=$(rt check "$work/$crate" "$@" 2>&1)
     if [ $? -ne 0 ] && printf '%s\n' "$log" | grep -q "error\[$want\]"; then
         echo "$edit: refused ($want)"
     else
         echo "$edit: NOT REFUSED with $want"
+        printf '%s\n' "$log" | head -3
         bad=1
     fi
 done

@@ -8,9 +8,9 @@ ghost use Rattle.ffi.specs.Counts.{Counted};
 use unicode::measure::measure_text;
 use unicode::usv::Usv;
 use unicode::usv::UsvMeasure;
+use unicode::utf8::is_utf8;
 use unicode::utf16::Utf16;
 use unicode::utf16::Utf16Measure;
-use unicode::utf8::is_utf8;
 
 // Whether the text is well-formed UTF-8.
 #[unsafe(no_mangle)]

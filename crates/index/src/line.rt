@@ -8,10 +8,10 @@ ghost use Rattle.index.specs.LineIndexes.{linesBefore, LineStarts, LineRange};
 use moves::line::forward_to_line_end;
 use position::bias::biased_to_start;
 use position::position::Position;
-use starts::starts::joins;
-use source::source::Source;
 use rows::node::NodeId;
 use rows::refusal::Refusal;
+use source::source::Source;
+use starts::starts::joins;
 
 // The number of lines that end with the run.
 fn line_ends<S: Source>(s: &S, row: NodeId) -> usize

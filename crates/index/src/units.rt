@@ -3,8 +3,8 @@ ghost use mathlib.Core.Path.{_≡_};
 ghost use Rattle.source.specs.Runs.{charactersIn};
 ghost use mathlib.Core.Bool.{true};
 ghost use Rattle.index.specs.Measured.{RunUnits, MeasuresBytes};
-use source::source::Source;
 use rows::node::NodeId;
+use source::source::Source;
 use unicode::measure::Measure;
 use unicode::measure::measure_text;
 

@@ -7,9 +7,9 @@ use crate::word::stop_after;
 use crate::word::stop_before;
 use position::bias::biased_to_start;
 use position::position::Position;
-use starts::starts::joins;
-use source::source::Source;
 use rows::refusal::Refusal;
+use source::source::Source;
+use starts::starts::joins;
 use unit::line::Line;
 use unit::line::LineUnit;
 

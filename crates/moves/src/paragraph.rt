@@ -10,11 +10,11 @@ use crate::line::backward_to_line_start;
 use crate::line::forward_to_line_end;
 use crate::line::forward_to_line_start;
 use position::position::Position;
+use rows::refusal::Refusal;
+use source::source::Source;
 use starts::starts::ends_document;
 use starts::starts::ends_paragraph;
 use starts::starts::starts_paragraph;
-use source::source::Source;
-use rows::refusal::Refusal;
 
 fn at_end_or_start<S: Source>(s: &S, p: Position) -> bool
     ensures { λ r. ⌜ r ≡ endOrStart (S·Source .doc (now (s .entry))) p ⌝ }

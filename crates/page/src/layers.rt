@@ -7,10 +7,10 @@ ghost use Rattle.page.specs.Pages.{pageDoc};
 ghost use Rattle.page.specs.Layering.{IsPassword, Uniform, Differs, LayerOf, Layers};
 use crate::page::Page;
 use crate::part::all_are;
-use source::layered::Layer;
-use source::layered::Layered;
 use rows::node::*;
 use rows::role;
+use source::layered::Layer;
+use source::layered::Layered;
 
 impl<'a> Page<'a> {
     fn is_password(&self) -> bool

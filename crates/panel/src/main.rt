@@ -27,7 +27,13 @@ use std::alloc::AllocError;
 use std::error::AnyError;
 
 // The commands that need no page. What no part of the program knows is unknown, or wants a page.
-fn answer(rt: &LibcRuntime, tables: &mut Builder, strip: &mut Strip, verb: &str, mut words: Words<'_>) -> Result<Reply, AllocError> {
+fn answer(
+    rt: &LibcRuntime,
+    tables: &mut Builder,
+    strip: &mut Strip,
+    verb: &str,
+    mut words: Words<'_>,
+) -> Result<Reply, AllocError> {
     if verb == "judge" {
         return Ok(answer_judge(tables.lend(), &mut words));
     }
@@ -64,7 +70,12 @@ fn asked(line: &[u8]) -> Ask {
     }
 }
 
-fn answer_other(rt: &LibcRuntime, tables: &mut Builder, strip: &mut Strip, line: &[u8]) -> Result<Reply, AllocError> {
+fn answer_other(
+    rt: &LibcRuntime,
+    tables: &mut Builder,
+    strip: &mut Strip,
+    line: &[u8],
+) -> Result<Reply, AllocError> {
     let Some(mut words) = Words::of(line) else {
         return Ok(Reply::Silent);
     };
@@ -86,7 +97,10 @@ fn main(rt: LibcRuntime) -> Result<(), AnyError> {
             Ask::Nothing => {}
             Ask::Open(root) => serve_page(&rt, &mut input, &mut strip, tables.lend(), root)?,
             Ask::Wrong(text) => print_reply(&rt, &Reply::Wrong(text))?,
-            Ask::Other => print_reply(&rt, &answer_other(&rt, &mut tables, &mut strip, input.line())?)?,
+            Ask::Other => print_reply(
+                &rt,
+                &answer_other(&rt, &mut tables, &mut strip, input.line())?,
+            )?,
         }
     }
     Ok(())

@@ -4,9 +4,9 @@ use crate::range_calls::answer_ranges;
 use crate::reply::Reply;
 use crate::strip::Strip;
 use crate::text_calls::answer_text;
+use crate::tree_calls::answer_judge;
 use crate::tree_calls::answer_tree;
 use crate::words::*;
-use crate::tree_calls::answer_judge;
 use page::page::Page;
 use page::page::reading::PageSource;
 use rows::node::Tables;
@@ -25,7 +25,13 @@ pub struct Open<'a> {
 }
 
 // The answer to a call on the page or on its text.
-pub fn answer_page(heap: Global, open: &Open<'_>, strip: &mut Strip, verb: &str, words: &mut Words<'_>) -> Result<Reply, AllocError> {
+pub fn answer_page(
+    heap: Global,
+    open: &Open<'_>,
+    strip: &mut Strip,
+    verb: &str,
+    words: &mut Words<'_>,
+) -> Result<Reply, AllocError> {
     if verb == "judge" {
         return Ok(answer_judge(open.tables, words));
     }

@@ -150,8 +150,12 @@ fn answer_index<S: Source>(s: &S, verb: &str, words: &mut Words<'_>) -> Reply {
         return Reply::Wrong(TOO_MANY);
     }
     match verb {
-        "text_position_from_global_usv_index" => of_position(text_position_from_global_usv_index(s, n)),
-        "text_position_from_global_utf16_index" => of_position(text_position_from_global_utf16_index(s, n)),
+        "text_position_from_global_usv_index" => of_position(text_position_from_global_usv_index(
+            s,
+            n,
+        )),
+        "text_position_from_global_utf16_index" =>
+            of_position(text_position_from_global_utf16_index(s, n)),
         _ => answer_line(s, n),
     }
 }

@@ -42,7 +42,13 @@ fn answer_range<S: Source>(s: &S, words: &mut Words<'_>) -> Reply {
 }
 
 // The text between two positions, in a buffer of its own.
-fn write_text<S: Source>(s: &S, p: Position, q: Position, strip: &[u8], mut buffer: Vec<u8>) -> Reply {
+fn write_text<S: Source>(
+    s: &S,
+    p: Position,
+    q: Position,
+    strip: &[u8],
+    mut buffer: Vec<u8>,
+) -> Reply {
     let range = match Range::new(s, p, q) {
         Ok(range) => range,
         Err(refusal) => return Reply::Refused(refusal),
@@ -74,7 +80,12 @@ fn answer_written<S: Source>(heap: Global, s: &S, strip: &[u8], words: &mut Word
 }
 
 // `piece ROW FIRST BEHIND`
-fn answer_piece<S: Source>(heap: Global, s: &S, strip: &[u8], words: &mut Words<'_>) -> Result<Reply, AllocError> {
+fn answer_piece<S: Source>(
+    heap: Global,
+    s: &S,
+    strip: &[u8],
+    words: &mut Words<'_>,
+) -> Result<Reply, AllocError> {
     let (Some(row), Some(first), Some(behind)) = (words.row(), words.size(), words.size()) else {
         return Ok(Reply::Wrong(NO_NUMBER));
     };
@@ -88,7 +99,13 @@ fn answer_piece<S: Source>(heap: Global, s: &S, strip: &[u8], words: &mut Words<
 }
 
 // The answer to a call on ranges; nothing where the verb is another.
-pub fn answer_ranges<S: Source>(heap: Global, s: &S, strip: &[u8], verb: &str, words: &mut Words<'_>) -> Result<Option<Reply>, AllocError> {
+pub fn answer_ranges<S: Source>(
+    heap: Global,
+    s: &S,
+    strip: &[u8],
+    verb: &str,
+    words: &mut Words<'_>,
+) -> Result<Option<Reply>, AllocError> {
     match verb {
         "range" => Ok(Some(answer_range(s, words))),
         "text" => Ok(Some(answer_written(heap, s, strip, words))),

@@ -16,7 +16,12 @@ pub fn of_ends(range: Range) -> Reply {
     Reply::Ends(range.start, range.end)
 }
 
-fn read_on<S: Source>(reader: &mut Reader<S>, unit: &str, strip: &[u8], buffer: &mut [u8]) -> Option<Result<usize, Refusal>> {
+fn read_on<S: Source>(
+    reader: &mut Reader<S>,
+    unit: &str,
+    strip: &[u8],
+    buffer: &mut [u8],
+) -> Option<Result<usize, Refusal>> {
     match unit {
         "character" => Some(reader.read_on(&Character, strip, buffer)),
         "word" => Some(reader.read_on(&Word, strip, buffer)),
@@ -26,7 +31,12 @@ fn read_on<S: Source>(reader: &mut Reader<S>, unit: &str, strip: &[u8], buffer: 
     }
 }
 
-fn read_back<S: Source>(reader: &mut Reader<S>, unit: &str, strip: &[u8], buffer: &mut [u8]) -> Option<Result<usize, Refusal>> {
+fn read_back<S: Source>(
+    reader: &mut Reader<S>,
+    unit: &str,
+    strip: &[u8],
+    buffer: &mut [u8],
+) -> Option<Result<usize, Refusal>> {
     match unit {
         "character" => Some(reader.read_back(&Character, strip, buffer)),
         "word" => Some(reader.read_back(&Word, strip, buffer)),
@@ -37,7 +47,11 @@ fn read_back<S: Source>(reader: &mut Reader<S>, unit: &str, strip: &[u8], buffer
 }
 
 // The range after a read, and the piece in its buffer.
-fn of_read<S: Source>(reader: &Reader<S>, answer: Result<usize, Refusal>, mut buffer: Vec<u8>) -> Reply {
+fn of_read<S: Source>(
+    reader: &Reader<S>,
+    answer: Result<usize, Refusal>,
+    mut buffer: Vec<u8>,
+) -> Reply {
     match answer {
         Ok(count) => {
             buffer.truncate(count);
@@ -49,7 +63,13 @@ fn of_read<S: Source>(reader: &Reader<S>, answer: Result<usize, Refusal>, mut bu
 }
 
 // `read_on UNIT CAPACITY`, `read_back UNIT CAPACITY`
-fn answer_read<S: Source>(heap: Global, reader: &mut Reader<S>, strip: &[u8], verb: &str, words: &mut Words<'_>) -> Reply {
+fn answer_read<S: Source>(
+    heap: Global,
+    reader: &mut Reader<S>,
+    strip: &[u8],
+    verb: &str,
+    words: &mut Words<'_>,
+) -> Reply {
     let (Some(unit), Some(capacity)) = (words.next(), words.size()) else {
         return Reply::Wrong(NO_NUMBER);
     };
@@ -90,7 +110,13 @@ fn answer_set<S: Source>(reader: &mut Reader<S>, verb: &str, words: &mut Words<'
 }
 
 // The answer to a call on a reader; nothing where the verb is another.
-pub fn answer_reader<S: Source>(heap: Global, reader: &mut Reader<S>, strip: &[u8], verb: &str, words: &mut Words<'_>) -> Option<Reply> {
+pub fn answer_reader<S: Source>(
+    heap: Global,
+    reader: &mut Reader<S>,
+    strip: &[u8],
+    verb: &str,
+    words: &mut Words<'_>,
+) -> Option<Reply> {
     match verb {
         "read_on" | "read_back" => Some(answer_read(heap, reader, strip, verb, words)),
         "set_start" | "set_end" => Some(answer_set(reader, verb, words)),

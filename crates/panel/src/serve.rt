@@ -12,9 +12,9 @@ use crate::strip::Strip;
 use crate::words::*;
 use page::page::Page;
 use page::page::reading::PageSource;
+use reader::reader::Reader;
 use rows::node::NodeId;
 use rows::node::Tables;
-use reader::reader::Reader;
 use rows::refusal::Refusal;
 use source::layered::LayeredSource;
 use source::source::Source;
@@ -47,10 +47,18 @@ fn level_of(line: &[u8]) -> Level {
 // `text` with one word appends to the table, and with more it is a call.
 fn text_level(mut words: Words<'_>) -> Level {
     let _ = words.next();
-    if words.are_done() { Level::Tables } else { Level::Page }
+    if words.are_done() {
+        Level::Tables
+    } else {
+        Level::Page
+    }
 }
 
-fn print_opened(rt: &LibcRuntime, open: &Open<'_>, refusal: Option<Refusal>) -> Result<(), AnyError> {
+fn print_opened(
+    rt: &LibcRuntime,
+    open: &Open<'_>,
+    refusal: Option<Refusal>,
+) -> Result<(), AnyError> {
     match refusal {
         Some(refusal) => print_refusal(rt, "refused", refusal)?,
         None => if open.source.is_masked() {
@@ -73,17 +81,34 @@ fn parsed(line: &[u8]) -> Result<(&str, Words<'_>), Reply> {
     }
 }
 
-fn answer_line(rt: &LibcRuntime, open: &Open<'_>, strip: &mut Strip, line: &[u8]) -> Result<Reply, AllocError> {
+fn answer_line(
+    rt: &LibcRuntime,
+    open: &Open<'_>,
+    strip: &mut Strip,
+    line: &[u8],
+) -> Result<Reply, AllocError> {
     match parsed(line) {
         Ok((verb, mut words)) => answer_page(rt.alloc(), open, strip, verb, &mut words),
         Err(reply) => Ok(reply),
     }
 }
 
-fn answer_with<S: Source>(rt: &LibcRuntime, open: &Open<'_>, reader: &mut Reader<S>, strip: &mut Strip, line: &[u8]) -> Result<Reply, AllocError> {
+fn answer_with<S: Source>(
+    rt: &LibcRuntime,
+    open: &Open<'_>,
+    reader: &mut Reader<S>,
+    strip: &mut Strip,
+    line: &[u8],
+) -> Result<Reply, AllocError> {
     match parsed(line) {
         Ok((verb, mut words)) => {
-            if let Some(reply) = answer_reader(rt.alloc(), reader, strip.bytes(), verb, &mut words) {
+            if let Some(reply) = answer_reader(
+                rt.alloc(),
+                reader,
+                strip.bytes(),
+                verb,
+                &mut words,
+            ) {
                 return Ok(reply);
             }
             answer_page(rt.alloc(), open, strip, verb, &mut words)
@@ -101,7 +126,12 @@ fn is_alone(line: &[u8]) -> bool {
 }
 
 // `reader`: a reader just opened, and the calls on it, up to `close`.
-fn serve_reader(rt: &LibcRuntime, input: &mut Input, strip: &mut Strip, open: &Open<'_>) -> Result<(), AnyError> {
+fn serve_reader(
+    rt: &LibcRuntime,
+    input: &mut Input,
+    strip: &mut Strip,
+    open: &Open<'_>,
+) -> Result<(), AnyError> {
     let mut reader = Reader::open(open.source);
     print_reply(rt, &of_ends(reader.range()))?;
     for _ in 0..u64::MAX {
@@ -109,7 +139,10 @@ fn serve_reader(rt: &LibcRuntime, input: &mut Input, strip: &mut Strip, open: &O
             break;
         }
         match level_of(input.line()) {
-            Level::Page => print_reply(rt, &answer_with(rt, open, &mut reader, strip, input.line())?)?,
+            Level::Page => print_reply(
+                rt,
+                &answer_with(rt, open, &mut reader, strip, input.line())?,
+            )?,
             Level::Close if is_alone(input.line()) => {
                 print_reply(rt, &of_ends(reader.close()))?;
                 return Ok(());
@@ -125,7 +158,13 @@ fn serve_reader(rt: &LibcRuntime, input: &mut Input, strip: &mut Strip, open: &O
 }
 
 // `open ROOT`: opens a page, and answers the calls on it, or on the blank page.
-pub fn serve_page(rt: &LibcRuntime, input: &mut Input, strip: &mut Strip, tables: Tables<'_>, root: NodeId) -> Result<(), AnyError> {
+pub fn serve_page(
+    rt: &LibcRuntime,
+    input: &mut Input,
+    strip: &mut Strip,
+    tables: Tables<'_>,
+    root: NodeId,
+) -> Result<(), AnyError> {
     let (page, refusal) = Page::open(tables, root);
     let open = Open {
         tables,

@@ -25,7 +25,12 @@ impl Strip {
     }
 
     // `strip HEX`, `strip bullets`; nothing where the verb is another.
-    pub fn change(&mut self, heap: Global, verb: &str, words: &mut Words<'_>) -> Result<Option<Reply>, AllocError> {
+    pub fn change(
+        &mut self,
+        heap: Global,
+        verb: &str,
+        words: &mut Words<'_>,
+    ) -> Result<Option<Reply>, AllocError> {
         if verb != "strip" {
             return Ok(None);
         }

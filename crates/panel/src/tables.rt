@@ -83,7 +83,11 @@ fn append(table: &mut Vec<u8>, entries: &[u8]) -> Result<Reply, AllocError> {
 }
 
 // Appends the numbers that are left of the line, each of 8 bits.
-fn append_smalls(heap: Global, table: &mut Vec<u8>, words: &mut Words<'_>) -> Result<Reply, AllocError> {
+fn append_smalls(
+    heap: Global,
+    table: &mut Vec<u8>,
+    words: &mut Words<'_>,
+) -> Result<Reply, AllocError> {
     let Some(numbers) = words.numbers(heap)? else {
         return Ok(Reply::Wrong(NO_NUMBER));
     };
@@ -158,7 +162,12 @@ impl Builder {
     }
 
     // Carries out a command that changes the tables; nothing where the verb is another.
-    pub fn change(&mut self, heap: Global, verb: &str, words: &mut Words<'_>) -> Result<Option<Reply>, AllocError> {
+    pub fn change(
+        &mut self,
+        heap: Global,
+        verb: &str,
+        words: &mut Words<'_>,
+    ) -> Result<Option<Reply>, AllocError> {
         let reply = match verb {
             "row" => self.add_row(words)?,
             "child" => self.add_children(heap, words)?,

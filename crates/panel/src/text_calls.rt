@@ -30,12 +30,17 @@ fn is_page_call(verb: &str) -> bool {
         "parent_and_index" | "path" | "first" | "last" | "next" | "previous" => true,
         "document_start" | "document_end" | "compare" | "same" | "line_range_from_index" => true,
         "range" | "text" | "piece" | "reader" => true,
-        _ => verb.starts_with("is_") || verb.starts_with("to_") || verb.starts_with("biased_") || is_move(verb),
+        _ => verb.starts_with("is_")
+            || verb.starts_with("to_")
+            || verb.starts_with("biased_")
+            || is_move(verb),
     }
 }
 
 fn is_move(verb: &str) -> bool {
-    verb.starts_with("forward_") || verb.starts_with("backward_") || verb.starts_with("text_position_")
+    verb.starts_with("forward_")
+        || verb.starts_with("backward_")
+        || verb.starts_with("text_position_")
 }
 
 // Whether a verb is a call on a reader.

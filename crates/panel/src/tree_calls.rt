@@ -23,7 +23,12 @@ enum Step {
     Previous(NodeId),
 }
 
-fn walk<F: Filter>(page: &Page<'_>, filter: &F, base: NodeId, step: Step) -> Result<Option<NodeId>, Refusal> {
+fn walk<F: Filter>(
+    page: &Page<'_>,
+    filter: &F,
+    base: NodeId,
+    step: Step,
+) -> Result<Option<NodeId>, Refusal> {
     match step {
         Step::First => page.first_filtered(filter, base),
         Step::Last => page.last_filtered(filter, base),
@@ -99,7 +104,13 @@ pub fn answer_judge(tables: Tables<'_>, words: &mut Words<'_>) -> Reply {
 }
 
 // The answer to a call on the tree; nothing where the verb is another.
-pub fn answer_tree(heap: Global, page: &Page<'_>, root: NodeId, verb: &str, words: &mut Words<'_>) -> Result<Option<Reply>, AllocError> {
+pub fn answer_tree(
+    heap: Global,
+    page: &Page<'_>,
+    root: NodeId,
+    verb: &str,
+    words: &mut Words<'_>,
+) -> Result<Option<Reply>, AllocError> {
     match verb {
         "parent_and_index" => Ok(Some(answer_parent(page, words))),
         "path" => Ok(Some(answer_path(heap, page, words)?)),

@@ -6,15 +6,25 @@ use std::alloc::Global;
 use std::str::SplitWhitespace;
 
 pub const NO_TEXT: &str = "not a line of text";
+
 pub const UNKNOWN: &str = "unknown command";
+
 pub const NO_BYTES: &str = "not bytes in hexadecimal digits";
+
 pub const NO_NUMBER: &str = "not the numbers that the command takes";
+
 pub const NO_POSITION: &str = "not the positions that the command takes: ROOT:ROW:INDEX";
+
 pub const NO_FILTER: &str = "not a filter: text or field";
+
 pub const NO_UNIT: &str = "not a unit: character, word, line or paragraph";
+
 pub const NO_PAGE: &str = "no page is open";
+
 pub const NO_READER: &str = "no reader is open";
+
 pub const NO_MEMORY: &str = "no memory for such a buffer";
+
 pub const TOO_MANY: &str = "more words than the command takes";
 
 // The value of a hexadecimal digit.

@@ -3,9 +3,9 @@ ghost use mathlib.Core.Path.{_≡_};
 ghost use Rattle.source.specs.Runs.{countIn};
 ghost use Rattle.position.specs.Places.{Lawful, Answers, BiasedStart, BiasedEnd, documentStart, documentEnd, place, total, sizeOf};
 use crate::position::Position;
-use source::source::Source;
 use rows::node::NodeId;
 use rows::refusal::Refusal;
+use source::source::Source;
 
 // A run's end becomes the next run's start, if a run follows.
 pub fn biased_to_start<S: Source>(s: &S, p: Position) -> Result<Position, Refusal>

@@ -2,8 +2,8 @@
 ghost use Rattle.position.specs.Places.{NextPlace, PreviousPlace};
 use crate::bias::biased_to_start;
 use crate::position::Position;
-use source::source::Source;
 use rows::refusal::Refusal;
+use source::source::Source;
 
 // The next place; the end place has none.
 pub fn forward_to_character_start<S: Source>(s: &S, p: Position) -> Result<Position, Refusal>

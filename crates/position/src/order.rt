@@ -6,9 +6,9 @@ ghost use Rattle.position.specs.Places.{Lawful, Answers};
 ghost use Rattle.position.specs.Orders.{alike, numbers, byRuns, Ordered};
 use crate::bias::biased_to_start;
 use crate::position::Position;
+use rows::refusal::Refusal;
 use source::source::Source;
 use std::cmp::Ordering;
-use rows::refusal::Refusal;
 
 // Equality of root, row and index as plain numbers: it asks no source and biases nothing.
 pub fn same(p: Position, q: Position) -> bool

@@ -8,9 +8,9 @@ use position::order::compare;
 use position::position::Position;
 use position::position::PositionDebug;
 use position::position::PositionPartialEq;
+use rows::refusal::Refusal;
 use source::source::Source;
 use std::cmp::Ordering;
-use rows::refusal::Refusal;
 
 // The fields may be set by hand: a call judges them, and a start that is after the end has no text.
 #[derive(Clone, Copy, PartialEq, Eq, Debug)]
@@ -58,6 +58,7 @@ impl Range {
         }
     }
 
+    // Another start, set in place; refused, the range stays as it was.
     pub fn set_start<S: Source>(&mut self, s: &S, p: Position) -> Result<(), Refusal>
         ensures { λ r. ⌜ Settles (Lawful (S·Source .doc (now (s .entry))) p × Both (S·Source .doc (now (s .entry))) (now (self .entry))) (StartMoved (S·Source .doc (now (s .entry))) p (now (self .entry))) (now (self .entry)) r (now (self .exit)) ⌝ }
     {
@@ -65,6 +66,7 @@ impl Range {
         Ok(())
     }
 
+    // Another end, set in place; refused, the range stays as it was.
     pub fn set_end<S: Source>(&mut self, s: &S, p: Position) -> Result<(), Refusal>
         ensures { λ r. ⌜ Settles (Lawful (S·Source .doc (now (s .entry))) p × Both (S·Source .doc (now (s .entry))) (now (self .entry))) (EndMoved (S·Source .doc (now (s .entry))) p (now (self .entry))) (now (self .entry)) r (now (self .exit)) ⌝ }
     {

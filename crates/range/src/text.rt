@@ -12,9 +12,9 @@ ghost use Rattle.range.specs.Walks.{Walked, Same, Heads, Tails, Needs, behindI
 use crate::range::Range;
 use position::order::compare;
 use position::position::Position;
+use rows::refusal::Refusal;
 use source::source::Source;
 use std::cmp::Ordering;
-use rows::refusal::Refusal;
 
 // The run writer: the bytes go to the front of what it is lent.
 fn put(out: &mut [u8], bytes: &[u8])

@@ -8,8 +8,8 @@ use position::bias::document_start;
 use position::position::Position;
 use range::range::Range;
 use range::text::text;
-use source::source::Source;
 use rows::refusal::Refusal;
+use source::source::Source;
 use unit::unit::Unit;
 
 #[derive(Drop)]
@@ -33,12 +33,7 @@ impl<S: Source> Reader<S> {
     }
 
     // Writes the text of another range, which then becomes the reader's.
-    fn turn_to(
-        &mut self,
-        range: Range,
-        strip: &[u8],
-        buffer: &mut [u8],
-    ) -> Result<usize, Refusal>
+    fn turn_to(&mut self, range: Range, strip: &[u8], buffer: &mut [u8]) -> Result<usize, Refusal>
         ensures kept { λ _. ⌜ now (self .exit) .source ≡ now (self .entry) .source ⌝ }
         ensures text { λ r. ⌜ Texts (S·Source .doc (now (self .entry) .source)) range (now (strip .entry)) (now (buffer .entry)) r (now (buffer .exit)) ⌝ }
         ensures turns { λ r. ⌜ now (self .exit) .range ≡ turned (now (self .entry) .range) range r ⌝ }

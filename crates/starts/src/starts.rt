@@ -6,9 +6,9 @@ ghost use Rattle.position.specs.Places.{Lawful, Answers};
 ghost use Rattle.starts.specs.Starts.{joins, breaks, opensLine, opensParagraph, runEnd, startsDocument, endsDocument, startsLine, endsLine, startsParagraph, endsParagraph, startsWord};
 use position::bias::biased_to_start;
 use position::position::Position;
-use source::source::Source;
 use rows::node::NodeId;
 use rows::refusal::Refusal;
+use source::source::Source;
 
 // Whether the run is joined on its line to the next one.
 pub fn joins<S: Source>(s: &S, row: NodeId) -> bool

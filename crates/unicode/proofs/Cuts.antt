@@ -88,15 +88,16 @@ split-at (c ∷ cs) at (i, is) (h, k) =
     elim (cases-eq at 0) [
       | inl z ↦ ([], c ∷ cs, refl, sym z)
       | inr z ↦
-    elim (cases-lt at (length (encode c))) [
-      | inl p ↦
-          let some = d .some in
-          let b = sym (ap begins (getD-append-left (encode c) (encodings cs) 0 at p)) in
-          absurd (both-ways (begins (getD (encode c ++ encodings cs) at 0)) (sym b ∙ d .others at (omega arith) p) (k (omega arith)))
-      | inr p ↦
-          more c cs at p (split-at cs (at - length (encode c)) is
-          (omega arith, λ q. ap begins (sym (getD-append-right (encode c) (encodings cs) (length (encode c)) at 0 refl p)) ∙ k (omega arith)))
-    ] ]
+          elim (cases-lt at (length (encode c))) [
+            | inl p ↦
+                let some = d .some in
+                let b = sym (ap begins (getD-append-left (encode c) (encodings cs) 0 at p)) in
+                absurd (both-ways (begins (getD (encode c ++ encodings cs) at 0)) (sym b ∙ d .others at (omega arith) p) (k (omega arith)))
+            | inr p ↦
+                more c cs at p (split-at cs (at - length (encode c)) is
+                (omega arith, λ q. ap begins (sym (getD-append-right (encode c) (encodings cs) (length (encode c)) at 0 refl p)) ∙ k (omega arith)))
+          ]
+    ]
 
 encodings-append : (cs ds : List ℕ) → encodings (cs ++ ds) ≡ encodings cs ++ encodings ds
 encodings-append [] ds = refl
@@ -119,9 +120,11 @@ cut-at cs at i (before, behind, e, n) =
     let s = subst Scalars e i in
     let f = ap encodings e ∙ encodings-append before behind in
     let l = ap length f ∙ length-append (encodings before) (encodings behind) in
-    let z : length (encodings before) + 0 ≡ at = omega arith in
-    (omega arith, λ q. ap begins (ap (λ (x : List ℕ). getD x at 0) f ∙ ap (λ m. getD (encodings before ++ encodings behind) m 0) (sym z) ∙ getD-append-add (encodings before) (encodings behind) 0 0)
-      ∙ behind-begins behind (scalars-behind before behind s) (omega arith))
+    let z : length (encodings before) + 0 ≡ at = omega arith in (
+      omega arith,
+      λ q. ap begins (ap (λ (x : List ℕ). getD x at 0) f ∙ ap (λ m. getD (encodings before ++ encodings behind) m 0) (sym z) ∙ getD-append-add (encodings before) (encodings behind) 0 0)
+          ∙ behind-begins behind (scalars-behind before behind s) (omega arith),
+    )
 
 -- the two tests of a cut agree on a well-formed text
 pub between-from-cut : (t : List ℕ) (at : ℕ) → WellFormed t → Cut t at → Between t at
@@ -139,9 +142,10 @@ cut-parts t at w c =
     let s = spelt w in
     let b = between-from-cut t at w c in
     let e = s .bytes ∙ ap encodings (b .2) ∙ encodings-append (b .0) (b .1) in
-    let i = subst Scalars (b .2) (s .scalars) in
-    (subst (λ (x : List ℕ). WellFormed x) (sym (ap (take at) e ∙ take-at (encodings (b .0)) (encodings (b .1)) at (b .3))) (encodings-fit (b .0) (scalars-before (b .0) (b .1) i)),
-     subst (λ (x : List ℕ). WellFormed x) (sym (ap (drop at) e ∙ drop-at (encodings (b .0)) (encodings (b .1)) at (b .3))) (encodings-fit (b .1) (scalars-behind (b .0) (b .1) i)))
+    let i = subst Scalars (b .2) (s .scalars) in (
+      subst (λ (x : List ℕ). WellFormed x) (sym (ap (take at) e ∙ take-at (encodings (b .0)) (encodings (b .1)) at (b .3))) (encodings-fit (b .0) (scalars-before (b .0) (b .1) i)),
+      subst (λ (x : List ℕ). WellFormed x) (sym (ap (drop at) e ∙ drop-at (encodings (b .0)) (encodings (b .1)) at (b .3))) (encodings-fit (b .1) (scalars-behind (b .0) (b .1) i)),
+    )
 
 -- every encoding has a byte
 pub encode-some : (c : ℕ) → IsScalar c → 0 < length (encode c)

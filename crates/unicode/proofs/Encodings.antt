@@ -33,13 +33,15 @@ size c i =
     elim (cases-lt c 0x80) [
       | inl p ↦ one p (grind (arith, tells))
       | inr p ↦
-    elim (cases-lt c 0x800) [
-      | inl q ↦ two p q (grind (arith, tells))
-      | inr q ↦
-    elim (cases-lt c 0x1_0000) [
-      | inl r ↦ three q r (grind (arith, tells))
-      | inr r ↦ four r m (grind (arith, tells))
-    ] ] ]
+          elim (cases-lt c 0x800) [
+            | inl q ↦ two p q (grind (arith, tells))
+            | inr q ↦
+                elim (cases-lt c 0x1_0000) [
+                  | inl r ↦ three q r (grind (arith, tells))
+                  | inr r ↦ four r m (grind (arith, tells))
+                ]
+          ]
+    ]
 
 -- a trailing byte adds no scalar, any other byte begins one
 pub skips : (b : ℕ) (s : List ℕ) → Trail b → scalars (b ∷ s) ≡ scalars s
@@ -109,23 +111,26 @@ fits-three c s i p q w =
     elim (cases-lt c 0x1000) [
       | inl h ↦ row3 (omega arith, omega arith) (omega arith, omega arith) (trails c) w
       | inr h ↦
-    elim (cases-lt c 0xD000) [
-      | inl k ↦ row4 (omega arith, omega arith) (trails (c / 0x40)) (trails c) w
-      | inr k ↦
-    elim i [
-      | inl l ↦ row5 (omega arith, omega arith) (omega arith, omega arith) (trails c) w
-      | inr l ↦ let low = l .0 in row6 (omega arith, omega arith) (trails (c / 0x40)) (trails c) w
-    ] ] ]
+          elim (cases-lt c 0xD000) [
+            | inl k ↦ row4 (omega arith, omega arith) (trails (c / 0x40)) (trails c) w
+            | inr k ↦
+                elim i [
+                  | inl l ↦ row5 (omega arith, omega arith) (omega arith, omega arith) (trails c) w
+                  | inr l ↦ let low = l .0 in row6 (omega arith, omega arith) (trails (c / 0x40)) (trails c) w
+                ]
+          ]
+    ]
 
 fits-four : (c : ℕ) (s : List ℕ) → 0x1_0000 ≤ c → c ≤ 0x10_FFFF → WellFormed s → WellFormed ((0xF0 + c / 0x4_0000) ∷ trailing (c / 0x1000) ∷ trailing (c / 0x40) ∷ trailing c ∷ s)
 fits-four c s p q w =
     elim (cases-lt c 0x4_0000) [
       | inl h ↦ row7 (omega arith, omega arith) (omega arith, omega arith) (trails (c / 0x40)) (trails c) w
       | inr h ↦
-    elim (cases-lt c 0x10_0000) [
-      | inl k ↦ row8 (omega arith, omega arith) (trails (c / 0x1000)) (trails (c / 0x40)) (trails c) w
-      | inr k ↦ row9 (omega arith, omega arith) (omega arith, omega arith) (trails (c / 0x40)) (trails c) w
-    ] ]
+          elim (cases-lt c 0x10_0000) [
+            | inl k ↦ row8 (omega arith, omega arith) (trails (c / 0x1000)) (trails (c / 0x40)) (trails c) w
+            | inr k ↦ row9 (omega arith, omega arith) (omega arith, omega arith) (trails (c / 0x40)) (trails c) w
+          ]
+    ]
 
 -- a scalar's encoding in front of a well-formed text makes a well-formed text
 pub fits : (c : ℕ) (s : List ℕ) → IsScalar c → WellFormed s → WellFormed (encode c ++ s)
@@ -144,47 +149,47 @@ pub record Sequence (f : List ℕ) (v : ℕ) : Type 0 where
 
 pub sequence-one : (a : ℕ) → a < 0x80 → Sequence (a ∷ []) a
 sequence-one a p = let i : IsScalar a = inl (omega arith) in record {
-    scalar = i;
-    bytes = elim (size a i) [ one q e ↦ e | two q r e ↦ absurd (omega arith) | three q r e ↦ absurd (omega arith) | four q r e ↦ absurd (omega arith) ];
-  }
+  scalar = i;
+  bytes = elim (size a i) [ one q e ↦ e | two q r e ↦ absurd (omega arith) | three q r e ↦ absurd (omega arith) | four q r e ↦ absurd (omega arith) ];
+}
 
 same-two : (a b c d : ℕ) → a ≡ c → b ≡ d → _≡_ {A = List ℕ} (a ∷ b ∷ []) (c ∷ d ∷ [])
 same-two a b c d p q = cc
 
 pub sequence-two : (a b v : ℕ) → In 0xC2 0xDF a → Trail b → (a % 0x20) * 0x40 + b % 0x40 ≡ v → Sequence (a ∷ b ∷ []) v
 sequence-two a b v (p, q) (r, s) e = let i : IsScalar v = inl (omega arith) in record {
-    scalar = i;
-    bytes =
+  scalar = i;
+  bytes =
       elim (size v i) [
         | one t f ↦ absurd (omega arith)
         | two t u f ↦ f ∙ same-two (0xC0 + v / 0x40) (trailing v) a b (omega arith) (omega arith)
         | three t u f ↦ absurd (omega arith)
         | four t u f ↦ absurd (omega arith)
       ];
-  }
+}
 
 same-three : (a b c d e f : ℕ) → a ≡ d → b ≡ e → c ≡ f → _≡_ {A = List ℕ} (a ∷ b ∷ c ∷ []) (d ∷ e ∷ f ∷ [])
 same-three a b c d e f p q r = cc
 
 pub sequence-three : (a b c v : ℕ) → In 0xE0 0xEF a → Trail b → Trail c → (a % 0x10) * 0x1000 + (b % 0x40) * 0x40 + c % 0x40 ≡ v → 0x800 ≤ v → IsScalar v → Sequence (a ∷ b ∷ c ∷ []) v
 sequence-three a b c v (p, q) (r, s) (x, y) e l i = record {
-    scalar = i;
-    bytes =
+  scalar = i;
+  bytes =
       elim (size v i) [
         | one t f ↦ absurd (omega arith)
         | two t u f ↦ absurd (omega arith)
         | three t u f ↦ f ∙ same-three (0xE0 + v / 0x1000) (trailing (v / 0x40)) (trailing v) a b c (omega arith) (omega arith) (omega arith)
         | four t u f ↦ absurd (omega arith)
       ];
-  }
+}
 
 same-four : (a b c d e f g h : ℕ) → a ≡ e → b ≡ f → c ≡ g → d ≡ h → _≡_ {A = List ℕ} (a ∷ b ∷ c ∷ d ∷ []) (e ∷ f ∷ g ∷ h ∷ [])
 same-four a b c d e f g h p q r s = cc
 
 pub sequence-four : (a b c d v : ℕ) → In 0xF0 0xF7 a → Trail b → Trail c → Trail d → (a % 0x08) * 0x4_0000 + (b % 0x40) * 0x1000 + (c % 0x40) * 0x40 + d % 0x40 ≡ v → 0x1_0000 ≤ v → IsScalar v → Sequence (a ∷ b ∷ c ∷ d ∷ []) v
 sequence-four a b c d v (p, q) (r, s) (x, y) (z, w) e l i = record {
-    scalar = i;
-    bytes =
+  scalar = i;
+  bytes =
       elim (size v i) [
         | one t f ↦ absurd (omega arith)
         | two t u f ↦ absurd (omega arith)
@@ -192,14 +197,14 @@ sequence-four a b c d v (p, q) (r, s) (x, y) (z, w) e l i = record {
         | four t u f ↦
             f ∙ same-four (0xF0 + v / 0x4_0000) (trailing (v / 0x1000)) (trailing (v / 0x40)) (trailing v) a b c d (omega arith) (omega arith) (omega arith) (omega arith)
       ];
-  }
+}
 
 -- a sequence in front of a spelt text
 onward : (f s : List ℕ) (v : ℕ) → Sequence f v → scalars (f ++ s) ≡ v ∷ scalars s → Spells (scalars s) s → Spells (scalars (f ++ s)) (f ++ s)
 onward f s v q e w = subst (λ (cs : List ℕ). Spells cs (f ++ s)) (sym e) (record {
-    scalars = (q .scalar, w .scalars);
-    bytes = ap (λ x. x ++ s) (sym (q .bytes)) ∙ ap (λ x. encode v ++ x) (w .bytes);
-  })
+  scalars = (q .scalar, w .scalars);
+  bytes = ap (λ x. x ++ s) (sym (q .bytes)) ∙ ap (λ x. encode v ++ x) (w .bytes);
+})
 
 onward-three : (a b c : ℕ) (s : List ℕ) → In 0xE0 0xEF a → Trail b → Trail c → 0x800 ≤ (a % 0x10) * 0x1000 + (b % 0x40) * 0x40 + c % 0x40 → IsScalar ((a % 0x10) * 0x1000 + (b % 0x40) * 0x40 + c % 0x40) → Spells (scalars s) s → Spells (scalars (a ∷ b ∷ c ∷ s)) (a ∷ b ∷ c ∷ s)
 onward-three a b c s (p, q) r t l i w =

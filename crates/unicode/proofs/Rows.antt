@@ -104,34 +104,43 @@ first a s go h =
     elim (cases-lt a 0x80) [
       | inl p1 ↦ row1 (zero-le, omega arith) (go Start (onto Start a s Start (grind (arith, tells)) h))
       | inr r1 ↦
-    elim (cases-lt a 0xC2) [
-      | inl p2 ↦ absurd (bad s (onto Start a s Bad (grind (arith, tells)) h))
-      | inr r2 ↦
-    elim (cases-lt a 0xE0) [
-      | inl p3 ↦ by-two a s (λ _ _ x w. row2 (omega arith, omega arith) x w) (go One (onto Start a s One (grind (arith, tells)) h))
-      | inr r3 ↦
-    elim (cases-lt a 0xE1) [
-      | inl p4 ↦ by-three (In 0xA0 0xBF) a s (λ _ _ _ x y w. row3 (omega arith, omega arith) x y w) (go AfterE0 (onto Start a s AfterE0 (grind (arith, tells)) h))
-      | inr r4 ↦
-    elim (cases-lt a 0xED) [
-      | inl p5 ↦ by-three Trail a s (λ _ _ _ x y w. row4 (omega arith, omega arith) x y w) (go Two (onto Start a s Two (grind (arith, tells)) h))
-      | inr r5 ↦
-    elim (cases-lt a 0xEE) [
-      | inl p6 ↦ by-three (In 0x80 0x9F) a s (λ _ _ _ x y w. row5 (omega arith, omega arith) x y w) (go AfterED (onto Start a s AfterED (grind (arith, tells)) h))
-      | inr r6 ↦
-    elim (cases-lt a 0xF0) [
-      | inl p7 ↦ by-three Trail a s (λ _ _ _ x y w. row6 (omega arith, omega arith) x y w) (go Two (onto Start a s Two (grind (arith, tells)) h))
-      | inr r7 ↦
-    elim (cases-lt a 0xF1) [
-      | inl p8 ↦ by-four (In 0x90 0xBF) a s (λ _ _ _ _ x y z w. row7 (omega arith, omega arith) x y z w) (go AfterF0 (onto Start a s AfterF0 (grind (arith, tells)) h))
-      | inr r8 ↦
-    elim (cases-lt a 0xF4) [
-      | inl p9 ↦ by-four Trail a s (λ _ _ _ _ x y z w. row8 (omega arith, omega arith) x y z w) (go Three (onto Start a s Three (grind (arith, tells)) h))
-      | inr r9 ↦
-    elim (cases-lt a 0xF5) [
-      | inl p10 ↦ by-four (In 0x80 0x8F) a s (λ _ _ _ _ x y z w. row9 (omega arith, omega arith) x y z w) (go AfterF4 (onto Start a s AfterF4 (grind (arith, tells)) h))
-      | inr r10 ↦ absurd (bad s (onto Start a s Bad (grind (arith, tells)) h))
-    ] ] ] ] ] ] ] ] ] ]
+          elim (cases-lt a 0xC2) [
+            | inl p2 ↦ absurd (bad s (onto Start a s Bad (grind (arith, tells)) h))
+            | inr r2 ↦
+                elim (cases-lt a 0xE0) [
+                  | inl p3 ↦ by-two a s (λ _ _ x w. row2 (omega arith, omega arith) x w) (go One (onto Start a s One (grind (arith, tells)) h))
+                  | inr r3 ↦
+                      elim (cases-lt a 0xE1) [
+                        | inl p4 ↦ by-three (In 0xA0 0xBF) a s (λ _ _ _ x y w. row3 (omega arith, omega arith) x y w) (go AfterE0 (onto Start a s AfterE0 (grind (arith, tells)) h))
+                        | inr r4 ↦
+                            elim (cases-lt a 0xED) [
+                              | inl p5 ↦ by-three Trail a s (λ _ _ _ x y w. row4 (omega arith, omega arith) x y w) (go Two (onto Start a s Two (grind (arith, tells)) h))
+                              | inr r5 ↦
+                                  elim (cases-lt a 0xEE) [
+                                    | inl p6 ↦ by-three (In 0x80 0x9F) a s (λ _ _ _ x y w. row5 (omega arith, omega arith) x y w) (go AfterED (onto Start a s AfterED (grind (arith, tells)) h))
+                                    | inr r6 ↦
+                                        elim (cases-lt a 0xF0) [
+                                          | inl p7 ↦ by-three Trail a s (λ _ _ _ x y w. row6 (omega arith, omega arith) x y w) (go Two (onto Start a s Two (grind (arith, tells)) h))
+                                          | inr r7 ↦
+                                              elim (cases-lt a 0xF1) [
+                                                | inl p8 ↦ by-four (In 0x90 0xBF) a s (λ _ _ _ _ x y z w. row7 (omega arith, omega arith) x y z w) (go AfterF0 (onto Start a s AfterF0 (grind (arith, tells)) h))
+                                                | inr r8 ↦
+                                                    elim (cases-lt a 0xF4) [
+                                                      | inl p9 ↦ by-four Trail a s (λ _ _ _ _ x y z w. row8 (omega arith, omega arith) x y z w) (go Three (onto Start a s Three (grind (arith, tells)) h))
+                                                      | inr r9 ↦
+                                                          elim (cases-lt a 0xF5) [
+                                                            | inl p10 ↦ by-four (In 0x80 0x8F) a s (λ _ _ _ _ x y z w. row9 (omega arith, omega arith) x y z w) (go AfterF4 (onto Start a s AfterF4 (grind (arith, tells)) h))
+                                                            | inr r10 ↦ absurd (bad s (onto Start a s Bad (grind (arith, tells)) h))
+                                                          ]
+                                                    ]
+                                              ]
+                                        ]
+                                  ]
+                            ]
+                      ]
+                ]
+          ]
+    ]
 
 pub sound : (t : State) (s : List ℕ) → passes t s ≡ true → Wants t s
 sound Start [] h = empty

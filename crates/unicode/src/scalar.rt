@@ -38,7 +38,10 @@ fn of_length(value: u32, least: u32, bytes: usize) -> Option<Scalar>
         return None;
     }
     match char::from_u32(value) {
-        Some(value) => Some(Scalar { value, length: bytes }),
+        Some(value) => Some(Scalar {
+            value,
+            length: bytes,
+        }),
         None => None,
     }
 }
@@ -76,7 +79,11 @@ fn read_at(text: &[u8], at: usize) -> Option<Scalar>
             let a = trailing_bits(text, at + 1)?;
             let b = trailing_bits(text, at + 2)?;
             let c = trailing_bits(text, at + 3)?;
-            of_length((lead % 0x08) * 0x4_0000 + a * 0x1000 + b * 0x40 + c, 0x1_0000, 4)
+            of_length(
+                (lead % 0x08) * 0x4_0000 + a * 0x1000 + b * 0x40 + c,
+                0x1_0000,
+                4,
+            )
         }
         _ => None,
     }

@@ -34,7 +34,9 @@ impl Utf8Check {
     fn new() -> Utf8Check
         ensures { λ r. ⌜ r .state ≡ State.Start ⌝ }
     {
-        Utf8Check { state: State::Start }
+        Utf8Check {
+            state: State::Start,
+        }
     }
 
     // The state after one byte more.

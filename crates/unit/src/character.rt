@@ -4,8 +4,8 @@ use crate::unit::*;
 use position::character::backward_to_character_start;
 use position::character::forward_to_character_start;
 use position::position::Position;
-use source::source::Source;
 use rows::refusal::Refusal;
+use source::source::Source;
 
 #[derive(Clone, Copy)]
 pub struct Character;

@@ -11,10 +11,10 @@ ghost use Rattle.unit.specs.Moves.{GoesOn, GoesBack};
 ghost use Rattle.unit.specs.Marks.{stopsBy, marksOf, First, Last, FirstIn, LastIn};
 use position::bias::biased_to_start;
 use position::position::Position;
-use starts::starts::opens_paragraph;
-use source::source::Source;
 use rows::node::NodeId;
 use rows::refusal::Refusal;
+use source::source::Source;
+use starts::starts::opens_paragraph;
 
 // Which positions of a run are marked: what a unit's moves ask of one run at a time.
 pub trait Marks<S: Source> {

@@ -3,8 +3,8 @@ ghost use Rattle.source.specs.Runs.{Document};
 ghost use Rattle.unit.specs.Stops.{Stops};
 ghost use Rattle.unit.specs.Moves.{GoesOn, GoesBack};
 use position::position::Position;
-use source::source::Source;
 use rows::refusal::Refusal;
+use source::source::Source;
 
 // The stops may depend on the unit's own value and on all that a document is, its text too.
 pub trait Unit<S: Source> {

@@ -4,10 +4,10 @@ ghost use Rattle.unit.specs.Marks.{words};
 use crate::marks::*;
 use crate::unit::*;
 use position::position::Position;
-use starts::starts::opens_paragraph;
-use source::source::Source;
 use rows::node::NodeId;
 use rows::refusal::Refusal;
+use source::source::Source;
+use starts::starts::opens_paragraph;
 
 #[derive(Clone, Copy)]
 pub struct Word;

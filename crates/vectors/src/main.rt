@@ -13,9 +13,9 @@ use unicode::scalar::is_boundary;
 use unicode::scalar::scalar_at;
 use unicode::usv::Usv;
 use unicode::usv::UsvMeasure;
+use unicode::utf8::is_utf8;
 use unicode::utf16::Utf16;
 use unicode::utf16::Utf16Measure;
-use unicode::utf8::is_utf8;
 
 // The bytes that hexadecimal digits spell; nothing where the line is no vector.
 fn unhex(heap: Global, text: &str) -> Result<Option<Vec<u8>>, AllocError> {
@@ -65,19 +65,30 @@ fn is_made_of(text: &[u8], words: SplitWhitespace<'_>) -> bool {
         let (Some(scalar), Ok(wanted)) = (scalar_at(text, at), u32::from_str_radix(word, 16)) else {
             return false;
         };
-        if scalar.value as u32 != wanted || !is_boundary(text, at) || !is_uncut(text, at, scalar.length) {
+        if scalar.value as u32 != wanted
+            || !is_boundary(text, at)
+            || !is_uncut(text, at, scalar.length)
+        {
             return false;
         }
         at = at.saturating_add(scalar.length);
     }
-    at == text.len() && is_boundary(text, at) && !is_boundary(text, at.saturating_add(1)) && scalar_at(text, at).is_none()
+    at == text.len()
+        && is_boundary(text, at)
+        && !is_boundary(text, at.saturating_add(1))
+        && scalar_at(text, at).is_none()
 }
 
 // Whether the crate answers as the vector has it.
 fn agrees(text: &[u8], mut words: SplitWhitespace<'_>) -> bool {
     match words.next() {
-        Some("ill-formed") => !is_utf8(text) && measure_text::<Usv>(text).is_err() && measure_text::<Utf16>(text).is_err(),
-        usv => is_utf8(text) && measures::<Usv>(text, usv) && measures::<Utf16>(text, words.next()) && is_made_of(text, words),
+        Some("ill-formed") => !is_utf8(text)
+            && measure_text::<Usv>(text).is_err()
+            && measure_text::<Utf16>(text).is_err(),
+        usv => is_utf8(text)
+            && measures::<Usv>(text, usv)
+            && measures::<Utf16>(text, words.next())
+            && is_made_of(text, words),
     }
 }
 

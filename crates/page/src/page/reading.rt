@@ -4,10 +4,10 @@ ghost use Rattle.page.specs.Pages.{pageDoc};
 ghost use Rattle.page.specs.Sounds.{page-sound};
 use crate::page::Page;
 use crate::part::*;
-use source::source::Source;
-use source::strip::part;
 use rows::node::*;
 use rows::refusal::Refusal;
+use source::source::Source;
+use source::strip::part;
 
 pub impl Source for Page<'_> as PageSource {
     ghost doc = { λ p. pageDoc p };

@@ -4,10 +4,10 @@ ghost use Rattle.rows.specs.Judge.{Verdict};
 ghost use Rattle.tree.specs.Judged.{Blank, Judged};
 ghost use Rattle.std.specs.declared.option.Option.{Option};
 ghost use Rattle.rows.specs.declared.refusal.Refusal.{Refusal};
+use crate::tree::Tree;
 use rows::node::*;
 use rows::refusal::Refusal;
 use rows::role;
-use crate::tree::Tree;
 
 static BLANK: [Row; 1] = [Row {
     role: role::OTHER,

@@ -2,9 +2,9 @@
 ghost use mathlib.Core.Path.{_≡_};
 ghost use Rattle.tree.specs.Order.{lessb};
 ghost use Rattle.tree.specs.Trees.{BeforeOn};
+use crate::tree::Tree;
 use rows::node::*;
 use rows::refusal::Refusal;
-use crate::tree::Tree;
 
 // Whether one index path comes before another.
 fn less(xs: &[u16], ys: &[u16]) -> bool

@@ -4,9 +4,9 @@ ghost use mathlib.Core.Path.{_≡_};
 ghost use lib.ListN.{length};
 ghost use Rattle.rows.specs.Rows.{row as rowAt};
 ghost use Rattle.tree.specs.Trees.{rowsOf, RowOn, ParentOn, StepsOn, PathOn};
+use crate::tree::Tree;
 use rows::node::*;
 use rows::refusal::Refusal;
-use crate::tree::Tree;
 
 impl<'a> Tree<'a> {
     pub fn root(&self) -> NodeId

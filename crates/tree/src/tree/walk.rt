@@ -9,11 +9,11 @@ ghost use Rattle.tree.specs.Walk.{Over, In, Sibling, Child, ahead, shown, answ
 ghost use Rattle.tree.specs.Walk.{head as headOf};
 ghost use Rattle.tree.specs.Trees.{rowsOf, entriesOf, IsRow, Lists, Included, Walked, FirstOn, LastOn, NextOn, PreviousOn};
 ghost use Rattle.std.specs.Orderings.{Decides};
+use crate::tree::Tree;
+use crate::way::Way;
 use rows::filters::*;
 use rows::node::*;
 use rows::refusal::Refusal;
-use crate::tree::Tree;
-use crate::way::Way;
 
 impl<'a> Tree<'a> {
     // The child of `row` at a place.

@@ -32,9 +32,13 @@ loop-at-again g c =
     let n = within t at x h (c .loop-at-test .taken) in
     let few = g .M·Measure·met .most (x .value) in
     let is = c .units-of-sum .ensures in
-    let sum = sum-more t at x h u (c .loop-at .sum) (total u (scalars t)) (c .loop-at .inv .2) in
-    (omega arith, n, ap (λ k. c .loop-at .sum + k + total u (scalars (drop (at + x .length) t))) is ∙ sum,
-     λ w. well-more t at x h (c .loop-at .inv .3 w), λ w. c .loop-at .inv .4 (well-less t at x h w))
+    let sum = sum-more t at x h u (c .loop-at .sum) (total u (scalars t)) (c .loop-at .inv .2) in (
+      omega arith,
+      n,
+      ap (λ k. c .loop-at .sum + k + total u (scalars (drop (at + x .length) t))) is ∙ sum,
+      λ w. well-more t at x h (c .loop-at .inv .3 w),
+      λ w. c .loop-at .inv .4 (well-less t at x h w),
+    )
 
 pub returns : need.returns
 returns g c =

@@ -23,7 +23,7 @@ answer c =
 
 pub returns : need.returns
 returns c = record {
-    table = (λ h. sound Start (c .args .text .now) (answer c ∙ h), λ w. sym (answer c) ∙ complete w);
-    spelt = λ h. spelt (sound Start (c .args .text .now) (answer c ∙ h));
-    only = λ cs h. (sym (answer c) ∙ complete (spelt-fits h), spelt-once h);
-  }
+  table = (λ h. sound Start (c .args .text .now) (answer c ∙ h), λ w. sym (answer c) ∙ complete w);
+  spelt = λ h. spelt (sound Start (c .args .text .now) (answer c ∙ h));
+  only = λ cs h. (sym (answer c) ∙ complete (spelt-fits h), spelt-once h);
+}
