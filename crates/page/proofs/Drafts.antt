@@ -1,4 +1,4 @@
--- A draft's runs, from what the tree answers. Assumes nothing.
+-- A draft's runs, from what the tree answers.
 use mathlib.Core.Path.{_≡_, refl, sym, ap, subst, _∙_}
 use mathlib.Core.List.{List, [], _∷_, _++_, reverse, append-assoc}
 use mathlib.Core.Bool.{Bool, true, false, cond, _||_}

@@ -1,4 +1,4 @@
--- A list of rows and the list of their runs. Assumes nothing.
+-- A list of rows and the list of their runs.
 use mathlib.Core.Path.{_≡_, refl, sym, ap, subst, _∙_}
 use mathlib.Core.List.{List, [], _∷_, _++_, reverse, append-assoc}
 use mathlib.Core.Bool.{Bool, true, false, cond}

@@ -1,4 +1,4 @@
--- A page that is not blank is its draft. Assumes nothing.
+-- A page that is not blank is its draft.
 use mathlib.Core.Path.{_≡_, refl, sym, ap, subst, _∙_}
 use mathlib.Core.List.{List, [], _∷_}
 use mathlib.Core.Bool.{Bool, true, false}

@@ -1,4 +1,4 @@
--- A run's parts as slices: loops over them. Assumes nothing.
+-- A run's parts as slices: loops over them.
 use mathlib.Core.Path.{_≡_, refl, sym, ap, subst, _∙_}
 use mathlib.Core.Logic.{⊎-elim}
 use mathlib.Core.List.{List, [], _∷_, _++_}

@@ -1,4 +1,4 @@
--- Whether the characters under a page's root are all one. Assumes nothing.
+-- Whether the characters under a page's root are all one.
 use mathlib.Core.Path.{_≡_, refl, sym, ap, subst, _∙_}
 use mathlib.Core.List.{List, [], _∷_, _++_}
 use mathlib.Core.Bool.{Bool, true, false}

@@ -1,4 +1,4 @@
--- The one verdict on a page: of two that fit, each is the other. Assumes nothing.
+-- The one verdict on a page: of two that fit, each is the other.
 use mathlib.Core.Path.{_≡_, refl, sym, ap, subst, _∙_}
 use mathlib.Core.Logic.{_⊎_, inl, inr, ⊎-elim}
 use Prim.Native.Nat.{ℕ, _<_, _≤_}

@@ -1,5 +1,5 @@
 -- What the calls on a page's tree answer. On the blank page, row 0 has no parent and its path to itself
--- is empty; every walk, and any other row, is out of place. Assumes nothing.
+-- is empty; every walk, and any other row, is out of place.
 use mathlib.Core.Path.{_≡_}
 use mathlib.Core.List.{List}
 use mathlib.Core.Bool.{Bool, true, false}

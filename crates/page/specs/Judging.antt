@@ -1,4 +1,4 @@
--- What opening asks of the root and of the runs under it, and what it answers. Assumes nothing.
+-- What opening asks of the root and of the runs under it, and what it answers.
 use mathlib.Core.Path.{_≡_}
 use mathlib.Core.List.{List, [], _∷_}
 use mathlib.Core.Bool.{Bool, true, false}

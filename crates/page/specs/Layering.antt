@@ -1,4 +1,4 @@
--- Which sources are piled up over a page. Assumes nothing.
+-- Which sources are piled up over a page.
 use mathlib.Core.Path.{_≡_}
 use mathlib.Core.List.{List, [], _∷_}
 use mathlib.Core.Bool.{Bool, true, false}

@@ -1,4 +1,4 @@
--- What opening answers. Assumes nothing.
+-- What opening answers.
 use mathlib.Core.Path.{_≡_}
 use mathlib.Core.Bool.{Bool, true, false}
 use mathlib.Core.Logic.{_⊎_}

@@ -1,4 +1,4 @@
--- What a page means: its sheet's document, or the blank one. Assumes nothing.
+-- What a page means: its sheet's document, or the blank one.
 use mathlib.Core.Path.{_≡_}
 use mathlib.Core.List.{List, [], _∷_}
 use mathlib.Core.Bool.{Bool, true, false}

@@ -1,5 +1,5 @@
 -- What the tables say under a root: its runs, one for each row that the text filter lists.
--- Assumes nothing.
+--
 use mathlib.Core.Path.{_≡_}
 use mathlib.Core.List.{List, [], _∷_, _++_}
 use mathlib.Core.Bool.{Bool, true, false, not}

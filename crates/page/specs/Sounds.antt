@@ -1,4 +1,4 @@
--- A page whose root and runs are in order is a sound source. Assumes nothing.
+-- A page whose root and runs are in order is a sound source.
 use mathlib.Core.Path.{_≡_, refl, sym, ap, subst, _∙_}
 use mathlib.Core.List.{List, [], _∷_, _++_, append-assoc}
 use mathlib.Core.Bool.{Bool, true, false, cond, not}

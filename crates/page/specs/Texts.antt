@@ -1,5 +1,5 @@
 -- A run's parts of the tables: its text, cut into characters by its lengths, and its word starts.
--- Assumes nothing.
+--
 use mathlib.Core.Path.{_≡_}
 use mathlib.Core.List.{List, [], _∷_}
 use mathlib.Core.Bool.{Bool, true, false}

@@ -1,5 +1,5 @@
 -- Masking and unwording keep counts, rows, joins, marks and order; unwording keeps the characters and
--- masking the words. Assumes nothing.
+-- masking the words.
 use mathlib.Core.Path.{_≡_, refl, sym, ap, subst, _∙_}
 use mathlib.Core.Logic.{⊎-elim}
 use mathlib.Core.List.{List, [], _∷_}

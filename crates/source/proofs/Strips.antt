@@ -1,4 +1,4 @@
--- The strip of bullets: its bytes, and which part of it a masked piece is. Assumes nothing.
+-- The strip of bullets: its bytes, and which part of it a masked piece is.
 use mathlib.Core.Path.{_≡_, refl, sym, ap, subst, _∙_}
 use mathlib.Core.Logic.{_⊎_, inl, inr, ⊎-elim}
 use mathlib.Core.List.{List, [], _∷_, _++_}

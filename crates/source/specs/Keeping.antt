@@ -1,4 +1,4 @@
--- A layer over a sound document is sound. Assumes nothing.
+-- A layer over a sound document is sound.
 use mathlib.Core.Path.{_≡_, refl, sym, ap, subst, _∙_}
 use mathlib.Core.List.{List, [], _∷_}
 use mathlib.Core.Bool.{true}
