@@ -141,7 +141,7 @@ fn answer_line<S: Source>(s: &S, n: usize) -> Reply {
     }
 }
 
-// `line_range_from_index N` and the two searches.
+// `line_range_from_index N`, and the positions of global indexes.
 fn answer_index<S: Source>(s: &S, verb: &str, words: &mut Words<'_>) -> Reply {
     let Some(n) = words.size() else {
         return Reply::Wrong(NO_NUMBER);
