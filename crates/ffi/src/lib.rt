@@ -1,5 +1,7 @@
 // What C and Rust may call through the static library: a byte slice is passed as a pointer and then a
 // length.
+#![tactic(auto)]
+
 ghost use Rattle.std.specs.Prelude.{◌≡◌, Decides};
 ghost use Rattle.unicode_text.specs.Table.{WellFormed};
 ghost use Rattle.unicode_text.specs.Measures.{usv_units, utf16_units};

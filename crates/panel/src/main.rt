@@ -1,5 +1,7 @@
 // The talking panel's program: it reads commands from standard input, one a line, and prints one line
 // for each call. docs/PANEL.md has the commands and what they print.
+#![tactic(auto)]
+
 mod input;
 mod page_calls;
 mod position_calls;

@@ -1,4 +1,6 @@
 // Sources of runs: what a page, or a layer over one, is read through.
+#![tactic(auto)]
+
 pub mod layered;
 pub mod masked;
 pub mod source;

@@ -1,4 +1,6 @@
 // Units of text: sets of a source's places, and the moves from stop to stop.
+#![tactic(auto)]
+
 pub mod character;
 pub mod line;
 mod marks;

@@ -1,6 +1,8 @@
 // Checks the UTF-8 check, the scalars, the cuts and the measures against vectors of the Unicode
 // Standard, which stand in the file `stdin`: a line for each, with the bytes and then `ill-formed`, or the
 // text's count of scalars, its count of UTF-16 code units, and its scalars.
+#![tactic(auto)]
+
 use std::alloc::{AllocError, Global};
 use std::io::{BufRead, BufReader};
 use std::str::SplitWhitespace;
