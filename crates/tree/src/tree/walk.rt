@@ -91,7 +91,7 @@ impl<'a> Tree<'a> {
     ) -> Option<NodeId>
         requires based { IsRow self.now base }
         requires under { In (rows_of self.now) base.0 start }
-        ensures { result ≡ head_of (ahead (rows_of self.now) (entries_of self.now) way (shown (rows_of self.now) (entries_of self.now) way (answers (answer filter.now) (rows_of self.now))) base.0 start) }
+        ensures { result ≡ head_of (ahead (rows_of self.now) (entries_of self.now) way (shown (rows_of self.now) (entries_of self.now) way (answers (F.answer filter.now) (rows_of self.now))) base.0 start) }
     {
         let mut at = start;
         while let Some(id) = at {
@@ -109,7 +109,7 @@ impl<'a> Tree<'a> {
 
     // Whether the tree has this row, and the filter includes it.
     fn includes<F: Filter>(&self, filter: &F, row: NodeId) -> bool
-        ensures { Decides result (Included self.now (answer filter.now) row) }
+        ensures { Decides result (Included self.now (F.answer filter.now) row) }
     {
         if row.0 as usize >= self.rows.len() {
             return false;
@@ -122,7 +122,7 @@ impl<'a> Tree<'a> {
 
     // Whether `row` is of the list under `base`, and a walk may be based there.
     pub fn is_listed<F: Filter>(&self, filter: &F, base: NodeId, row: NodeId) -> bool
-        ensures { Decides result (Walked self.now (answer filter.now) base row) }
+        ensures { Decides result (Walked self.now (F.answer filter.now) base row) }
     {
         if !self.includes(filter, base) {
             return false;
@@ -149,8 +149,8 @@ impl<'a> Tree<'a> {
 
     // The first row of the list under `base`.
     pub fn first<F: Filter>(&self, filter: &F, base: NodeId) -> Result<Option<NodeId>, Refusal>
-        ensures first { FirstOn self.now (answer filter.now) base result }
-        ensures lists { IsRow self.now base → Lists self.now (answer filter.now) base }
+        ensures first { FirstOn self.now (F.answer filter.now) base result }
+        ensures lists { IsRow self.now base → Lists self.now (F.answer filter.now) base }
     {
         if !self.includes(filter, base) {
             return Err(Refusal::Misplaced);
@@ -161,7 +161,7 @@ impl<'a> Tree<'a> {
 
     // The last row of the list under `base`.
     pub fn last<F: Filter>(&self, filter: &F, base: NodeId) -> Result<Option<NodeId>, Refusal>
-        ensures { LastOn self.now (answer filter.now) base result }
+        ensures { LastOn self.now (F.answer filter.now) base result }
     {
         if !self.includes(filter, base) {
             return Err(Refusal::Misplaced);
@@ -177,7 +177,7 @@ impl<'a> Tree<'a> {
         base: NodeId,
         row: NodeId,
     ) -> Result<Option<NodeId>, Refusal>
-        ensures { NextOn self.now (answer filter.now) base row result }
+        ensures { NextOn self.now (F.answer filter.now) base row result }
     {
         if !self.is_listed(filter, base, row) {
             return Err(Refusal::Misplaced);
@@ -193,7 +193,7 @@ impl<'a> Tree<'a> {
         base: NodeId,
         row: NodeId,
     ) -> Result<Option<NodeId>, Refusal>
-        ensures { PreviousOn self.now (answer filter.now) base row result }
+        ensures { PreviousOn self.now (F.answer filter.now) base row result }
     {
         if !self.is_listed(filter, base, row) {
             return Err(Refusal::Misplaced);

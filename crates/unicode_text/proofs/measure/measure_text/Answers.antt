@@ -4,12 +4,12 @@ use Rattle.unicode_text.specs.Measures.{total}
 use Rattle.unicode_text.proofs.Sums.{sum_more, sum_all_lem, well_more, well_less, some_bytes, within, no_well, done}
 use Rattle.unicode_text.proofs.measure.measure_text.Goals as goal
 
-pub returns-in-default : goal.returns-in-default
-returns-in-default g c =
-    (omega arith, λ w. no_well c.args.text.now c.loop-at.at c.loop-at-test.true c.in-default.ensures.stands (c.loop-at.invariant.3 w))
+pub returns-in_default : goal.returns-in_default
+returns-in_default g c =
+    (omega arith, λ w. no_well c.args.text.now c.loop-at.at c.loop-at-test.true c.in_default.ensures.stands (c.loop-at.invariant.3 w))
 
-pub overflow-add-at : goal.overflow-add-at
-overflow-add-at g c =
+pub overflow_add-at : goal.overflow_add-at
+overflow_add-at g c =
     let n = within c.args.text.now c.loop-at.at c.in-Some.scalar c.in-Some.ensures.stands c.loop-at-test.true in
     omega arith
 
@@ -28,7 +28,7 @@ loop-at-preserved g c =
     let s = some_bytes t at x h in
     let n = within t at x h c.loop-at-test.true in
     let few = g.met.M.Measure.most x.value in
-    let is = c.units-of-sum.ensures in
+    let is = c.units_of-sum.ensures in
     let sum = sum_more t at x h u c.loop-at.sum (total u (scalars t)) c.loop-at.invariant.2 in (
       omega arith,
       n,

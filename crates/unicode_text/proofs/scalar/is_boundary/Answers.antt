@@ -22,12 +22,12 @@ returns-in-128-to-191 c =
     let d = inside c.args.text.now c.args.at false c.if-at-text.false (trail_begins_none (get_or c.args.text.now c.args.at 0) (omega arith, omega arith)) in
     record { cut = d; between = cuts_agree c.args.text.now c.args.at false d }
 
-pub returns-in-default : goal.returns-in-default
-returns-in-default c =
+pub returns-in_default : goal.returns-in_default
+returns-in_default c =
     let d = inside c.args.text.now c.args.at true c.if-at-text.false (lead_begins (get_or c.args.text.now c.args.at 0) (inl (omega arith))) in
     record { cut = d; between = cuts_agree c.args.text.now c.args.at true d }
 
-pub returns-in-default·2 : goal.returns-in-default·2
-returns-in-default·2 c =
+pub returns-in_default-2 : goal.returns-in_default-2
+returns-in_default-2 c =
     let d = inside c.args.text.now c.args.at true c.if-at-text.false (lead_begins (get_or c.args.text.now c.args.at 0) (inr (omega arith))) in
     record { cut = d; between = cuts_agree c.args.text.now c.args.at true d }

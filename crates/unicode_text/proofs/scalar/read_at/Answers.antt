@@ -9,56 +9,56 @@ exits : (t : List ℕ) (at : ℕ) (o : Option Scalar) → o ≡ None → StandsA
 exits t at o e h = subst (StandsAt t at) (sym e) h
 
 pub returns-in-0-to-127 : goal.returns-in-0-to-127
-returns-in-0-to-127 c = stands_one c.args.text.now c.args.at c.requires (omega arith) c.of-length.result c.of-length.ensures
+returns-in-0-to-127 c = stands_one c.args.text.now c.args.at c.requires (omega arith) c.of_length.result c.of_length.ensures
 
-pub returns-in-err-a : goal.returns-in-err-a
-returns-in-err-a c =
-    exits c.args.text.now c.args.at c.from-residual.result c.from-residual.ensures
-    (no_two c.args.text.now c.args.at (omega arith) (omega arith) c.in-err-a.ensures)
+pub returns-in_err-a-in-192-to-223 : goal.returns-in_err-a-in-192-to-223
+returns-in_err-a-in-192-to-223 c =
+    exits c.args.text.now c.args.at c.from_residual.result c.from_residual.ensures
+    (no_two c.args.text.now c.args.at (omega arith) (omega arith) c.in_err-a-in-192-to-223.ensures)
 
-pub returns-in-ok-a : goal.returns-in-ok-a
-returns-in-ok-a c =
-    stands_two c.args.text.now c.args.at (omega arith) (omega arith) c.in-ok-a.a _ c.in-ok-a.ensures refl
-    c.of-length-in-192-to-223.result c.of-length-in-192-to-223.ensures
+pub returns-in_ok-a-in-192-to-223 : goal.returns-in_ok-a-in-192-to-223
+returns-in_ok-a-in-192-to-223 c =
+    stands_two c.args.text.now c.args.at (omega arith) (omega arith) c.in_ok-a-in-192-to-223.a _ c.in_ok-a-in-192-to-223.ensures refl
+    c.of_length-in-192-to-223.result c.of_length-in-192-to-223.ensures
 
-pub returns-in-err-a-2 : goal.returns-in-err-a-2
-returns-in-err-a-2 c =
-    exits c.args.text.now c.args.at c.from-residual-in-err-a-2.result c.from-residual-in-err-a-2.ensures
-    (no_three c.args.text.now c.args.at (omega arith) (omega arith) (inl c.in-err-a-2.ensures))
+pub returns-in_err-a-in-224-to-239 : goal.returns-in_err-a-in-224-to-239
+returns-in_err-a-in-224-to-239 c =
+    exits c.args.text.now c.args.at c.from_residual-in_err-a-in-224-to-239.result c.from_residual-in_err-a-in-224-to-239.ensures
+    (no_three c.args.text.now c.args.at (omega arith) (omega arith) (inl c.in_err-a-in-224-to-239.ensures))
 
-pub returns-in-err-b : goal.returns-in-err-b
-returns-in-err-b c =
-    exits c.args.text.now c.args.at c.from-residual-in-err-b.result c.from-residual-in-err-b.ensures
-    (no_three c.args.text.now c.args.at (omega arith) (omega arith) (inr c.in-err-b.ensures))
+pub returns-in_err-b-in-224-to-239 : goal.returns-in_err-b-in-224-to-239
+returns-in_err-b-in-224-to-239 c =
+    exits c.args.text.now c.args.at c.from_residual-in_err-b-in-224-to-239.result c.from_residual-in_err-b-in-224-to-239.ensures
+    (no_three c.args.text.now c.args.at (omega arith) (omega arith) (inr c.in_err-b-in-224-to-239.ensures))
 
-pub returns-in-ok-b : goal.returns-in-ok-b
-returns-in-ok-b c =
-    stands_three c.args.text.now c.args.at (omega arith) (omega arith) c.in-ok-a-2.a c.in-ok-b.b _
-    c.in-ok-a-2.ensures c.in-ok-b.ensures refl c.of-length-in-224-to-239.result c.of-length-in-224-to-239.ensures
+pub returns-in_ok-b-in-224-to-239 : goal.returns-in_ok-b-in-224-to-239
+returns-in_ok-b-in-224-to-239 c =
+    stands_three c.args.text.now c.args.at (omega arith) (omega arith) c.in_ok-a-in-224-to-239.a c.in_ok-b-in-224-to-239.b _
+    c.in_ok-a-in-224-to-239.ensures c.in_ok-b-in-224-to-239.ensures refl c.of_length-in-224-to-239.result c.of_length-in-224-to-239.ensures
 
-pub returns-in-err-a-3 : goal.returns-in-err-a-3
-returns-in-err-a-3 c =
-    exits c.args.text.now c.args.at c.from-residual-in-err-a-3.result c.from-residual-in-err-a-3.ensures
-    (no_four c.args.text.now c.args.at (omega arith) (omega arith) (inl c.in-err-a-3.ensures))
+pub returns-in_err-a-in-240-to-247 : goal.returns-in_err-a-in-240-to-247
+returns-in_err-a-in-240-to-247 c =
+    exits c.args.text.now c.args.at c.from_residual-in_err-a-in-240-to-247.result c.from_residual-in_err-a-in-240-to-247.ensures
+    (no_four c.args.text.now c.args.at (omega arith) (omega arith) (inl c.in_err-a-in-240-to-247.ensures))
 
-pub returns-in-err-b-2 : goal.returns-in-err-b-2
-returns-in-err-b-2 c =
-    exits c.args.text.now c.args.at c.from-residual-in-err-b-2.result c.from-residual-in-err-b-2.ensures
-    (no_four c.args.text.now c.args.at (omega arith) (omega arith) (inr (inl c.in-err-b-2.ensures)))
+pub returns-in_err-b-in-240-to-247 : goal.returns-in_err-b-in-240-to-247
+returns-in_err-b-in-240-to-247 c =
+    exits c.args.text.now c.args.at c.from_residual-in_err-b-in-240-to-247.result c.from_residual-in_err-b-in-240-to-247.ensures
+    (no_four c.args.text.now c.args.at (omega arith) (omega arith) (inr (inl c.in_err-b-in-240-to-247.ensures)))
 
-pub returns-in-err-c : goal.returns-in-err-c
-returns-in-err-c c =
-    exits c.args.text.now c.args.at c.from-residual-in-err-c.result c.from-residual-in-err-c.ensures
-    (no_four c.args.text.now c.args.at (omega arith) (omega arith) (inr (inr c.in-err-c.ensures)))
+pub returns-in_err-c-in-240-to-247 : goal.returns-in_err-c-in-240-to-247
+returns-in_err-c-in-240-to-247 c =
+    exits c.args.text.now c.args.at c.from_residual-in_err-c-in-240-to-247.result c.from_residual-in_err-c-in-240-to-247.ensures
+    (no_four c.args.text.now c.args.at (omega arith) (omega arith) (inr (inr c.in_err-c-in-240-to-247.ensures)))
 
-pub returns-in-ok-c : goal.returns-in-ok-c
-returns-in-ok-c c =
-    stands_four c.args.text.now c.args.at (omega arith) (omega arith) c.in-ok-a-3.a c.in-ok-b-2.b c.in-ok-c.c _
-    c.in-ok-a-3.ensures c.in-ok-b-2.ensures c.in-ok-c.ensures refl c.of-length-in-240-to-247.result
-    c.of-length-in-240-to-247.ensures
+pub returns-in_ok-c-in-240-to-247 : goal.returns-in_ok-c-in-240-to-247
+returns-in_ok-c-in-240-to-247 c =
+    stands_four c.args.text.now c.args.at (omega arith) (omega arith) c.in_ok-a-in-240-to-247.a c.in_ok-b-in-240-to-247.b c.in_ok-c-in-240-to-247.c _
+    c.in_ok-a-in-240-to-247.ensures c.in_ok-b-in-240-to-247.ensures c.in_ok-c-in-240-to-247.ensures refl c.of_length-in-240-to-247.result
+    c.of_length-in-240-to-247.ensures
 
-pub returns-in-default : goal.returns-in-default
-returns-in-default c = no_one c.args.text.now c.args.at (omega arith) (inl (omega arith))
+pub returns-in_default : goal.returns-in_default
+returns-in_default c = no_one c.args.text.now c.args.at (omega arith) (inl (omega arith))
 
-pub returns-in-default·2 : goal.returns-in-default·2
-returns-in-default·2 c = no_one c.args.text.now c.args.at (omega arith) (inr (omega arith))
+pub returns-in_default-2 : goal.returns-in_default-2
+returns-in_default-2 c = no_one c.args.text.now c.args.at (omega arith) (inr (omega arith))

@@ -4,8 +4,8 @@ use Rattle.unicode_text.proofs.scalar.scalar_at.Goals as goal
 
 pub returns-then-at-text : goal.returns-then-at-text
 returns-then-at-text c = record {
-  stands = c.read-at.ensures;
-  only = λ o h. one_answer c.args.text.now c.args.at o c.read-at.result c.read-at.ensures h;
+  stands = c.read_at.ensures;
+  only = λ o h. one_answer c.args.text.now c.args.at o c.read_at.result c.read_at.ensures h;
 }
 
 pub returns-else-at-text : goal.returns-else-at-text

@@ -13,11 +13,11 @@ loop-byte-preserved c =
     ∙ sym (ap (passes c.loop-byte.check.state) e) ∙ c.loop-byte.invariant
 
 -- the answer is whether the whole text passes from the start
-answer : (c : goal.After-is-complete) → passes Start c.args.text.now ≡ c.is-complete.result
+answer : (c : goal.After-is_complete) → passes Start c.args.text.now ≡ c.is_complete.result
 answer c =
     sym c.loop-byte.invariant
     ∙ ap (passes c.loop-byte.check.state) (drop_all c.loop-byte.byte-index c.args.text.now c.loop-byte-test.false)
-    ∙ sym c.is-complete.ensures
+    ∙ sym c.is_complete.ensures
 
 pub returns : goal.returns
 returns c = record {

@@ -2,8 +2,8 @@ use Rattle.std.proofs.Common.{◌≡◌, ℕ, ◌-◌, ◌*◌, ◌≤◌, true,
 use Rattle.source.proofs.Strips.{count_few, masked_piece, masked_room, unasked_none, unasked, asked_masked}
 use Rattle.source.proofs.masked.MaskedSource.piece.Goals as goal
 
-pub returns-in-default : goal.returns-in-default
-returns-in-default g c = unasked_none (g.S.Source.doc c.args.self.now.inner) c.args.row.0 c.args.first c.args.behind c.in-default.ensures
+pub returns-in_default : goal.returns-in_default
+returns-in_default g c = unasked_none (g.S.Source.doc c.args.self.now.inner) c.args.row.0 c.args.first c.args.behind c.in_default.ensures
 
 pub returns-then-first-behind : goal.returns-then-first-behind
 returns-then-first-behind g c =
@@ -12,16 +12,16 @@ returns-then-first-behind g c =
 false_true : false ≡ true → ⊥
 false_true e = let z : ◌≡◌ {A = ℕ} 0 1 = cc in omega arith
 
-pub returns-then-not-is-strip : goal.returns-then-not-is-strip
-returns-then-not-is-strip g c =
+pub returns-then-not-is_strip : goal.returns-then-not-is_strip
+returns-then-not-is_strip g c =
     let d = g.S.Source.doc c.args.self.now.inner in (
       asked_masked d c.args.row.0 c.args.first c.args.behind c.in-Some.count c.in-Some.ensures c.if-first-behind.false c.if-behind-count.false,
-      (λ e. false_true (c.if-not-is-strip.ensures.1 (e refl))),
+      (λ e. false_true (c.if-not-is_strip.ensures.1 (e refl))),
       refl,
     )
 
-pub overflow-mul-behind : goal.overflow-mul-behind
-overflow-mul-behind g c =
+pub overflow_mul-behind : goal.overflow_mul-behind
+overflow_mul-behind g c =
     let d = g.S.Source.doc c.args.self.now.inner in
     let k = count_few d.runs c.args.row.0 c.in-Some.count (g.S.Source.sound c.args.self.now.inner).runs c.in-Some.ensures in
     let z : 3 * (c.args.behind - c.args.first) ≤ 765 = omega arith in
@@ -31,7 +31,7 @@ pub returns-in-Some-part : goal.returns-in-Some-part
 returns-in-Some-part g c =
     let d = g.S.Source.doc c.args.self.now.inner in
     let k = count_few d.runs c.args.row.0 c.in-Some.count (g.S.Source.sound c.args.self.now.inner).runs c.in-Some.ensures in
-    let s = c.if-not-is-strip.ensures.0 refl in (
+    let s = c.if-not-is_strip.ensures.0 refl in (
       asked_masked d c.args.row.0 c.args.first c.args.behind c.in-Some.count c.in-Some.ensures c.if-first-behind.false c.if-behind-count.false,
       (λ e. s),
       masked_piece d.runs c.args.row.0 c.args.first c.args.behind c.in-Some.count c.args.strip.now c.in-Some.ensures c.if-first-behind.false c.if-behind-count.false k s c.in-Some-part.bullets.now c.in-Some-part.ensures.2,
@@ -41,5 +41,5 @@ pub returns-in-None : goal.returns-in-None
 returns-in-None g c =
     let d = g.S.Source.doc c.args.self.now.inner in
     let k = count_few d.runs c.args.row.0 c.in-Some.count (g.S.Source.sound c.args.self.now.inner).runs c.in-Some.ensures in
-    let s = c.if-not-is-strip.ensures.0 refl in
+    let s = c.if-not-is_strip.ensures.0 refl in
     absurd (c.in-None.ensures (omega arith, masked_room c.args.strip.now c.args.first c.args.behind c.in-Some.count s c.if-first-behind.false c.if-behind-count.false k))

@@ -4,4 +4,4 @@ use Rattle.source.proofs.Laws.{unworded_words}
 use Rattle.source.proofs.unworded.UnwordedSource.word_start_from.Goals as goal
 
 pub returns : goal.returns
-returns g c = sym (ap (first_from c.args.-index) (unworded_words (g.S.Source.doc c.args.self.now.inner).runs c.args.-row.0))
+returns g c = sym (ap (first_from c.args._index) (unworded_words (g.S.Source.doc c.args.self.now.inner).runs c.args._row.0))

@@ -23,11 +23,11 @@ returns-then-parent-base-2 g c =
     let a = answers (g.F.Filter.answer c.args.filter.now) c.args.self.now.rows.now in
     refuse (λ l. omega (arith, on_above w Forward a c.args.base.0 (par c.args.self.now.rows.now c.loop-current.current) (on_up w Forward a c.args.base.0 c.loop-current.current (c.loop-current.invariant.2 l.1.1) c.if-parent-base.false).1))
 
-pub returns-in-default : goal.returns-in-default
-returns-in-default g c =
+pub returns-in_default : goal.returns-in_default
+returns-in_default g c =
     let w = well c.args.self.now in
     let a = answers (g.F.Filter.answer c.args.filter.now) c.args.self.now.rows.now in
-    refuse (λ l. let e = (on_up w Forward a c.args.base.0 c.loop-current.current (c.loop-current.invariant.2 l.1.1) c.if-parent-base.false).0 in c.in-default.not-ExcludeNode (c.filter.ensures ∙ e))
+    refuse (λ l. let e = (on_up w Forward a c.args.base.0 c.loop-current.current (c.loop-current.invariant.2 l.1.1) c.if-parent-base.false).0 in c.in_default.not-ExcludeNode (c.filter.ensures ∙ e))
 
 pub loop-current-preserved : goal.loop-current-preserved
 loop-current-preserved g c =

@@ -5,12 +5,12 @@ use Rattle.tree.proofs.Lists.{precedes, passed_under}
 use Rattle.rows.proofs.Tests.{granted}
 use Rattle.tree.proofs.tree.Tree.previous.Goals as goal
 
-pub step-over-start-requires : goal.step-over-start-requires
-step-over-start-requires g c =
-    let l = granted c.is-listed.result c.is-listed.ensures c.if-not-is-listed.false in
+pub step_over-start-requires : goal.step_over-start-requires
+step_over-start-requires g c =
+    let l = granted c.is_listed.result c.is_listed.ensures c.if-not-is_listed.false in
     record { based = l.0.0; under = (l.1.1.0, passed_under (well c.args.self.now) Backward (answers (g.F.Filter.answer c.args.filter.now) c.args.self.now.rows.now) c.args.base.0 l.1.1.0 c.args.row.0 l.1.1.1) }
 
 pub returns : goal.returns
 returns g c =
-    let l = granted c.is-listed.result c.is-listed.ensures c.if-not-is-listed.false in
-    (l, precedes (well c.args.self.now) (answers (g.F.Filter.answer c.args.filter.now) c.args.self.now.rows.now) c.args.base.0 c.args.row.0 c.step-over-start.result c.seek.result l.0.0 l.1 c.step-over-start.ensures c.seek.ensures)
+    let l = granted c.is_listed.result c.is_listed.ensures c.if-not-is_listed.false in
+    (l, precedes (well c.args.self.now) (answers (g.F.Filter.answer c.args.filter.now) c.args.self.now.rows.now) c.args.base.0 c.args.row.0 c.step_over-start.result c.seek.result l.0.0 l.1 c.step_over-start.ensures c.seek.ensures)

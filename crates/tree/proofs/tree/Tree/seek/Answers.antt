@@ -27,23 +27,23 @@ loop-at-preserved-in-Some-child g c =
 pub loop-at-smaller-in-None : goal.loop-at-smaller-in-None
 loop-at-smaller-in-None g c =
     let u = subst (In _ _) c.in-Some.is c.loop-at.invariant.0 in
-    falls_over (well c.args.self.now) c.args.way c.in-Some.id _ c.loop-at.at c.step-over-at.result c.in-Some.is u c.step-over-at.ensures
+    falls_over (well c.args.self.now) c.args.way c.in-Some.id _ c.loop-at.at c.step_over-at.result c.in-Some.is u c.step_over-at.ensures
 
 pub loop-at-preserved-in-None : goal.loop-at-preserved-in-None
 loop-at-preserved-in-None g c =
     let u = subst (In _ _) c.in-Some.is c.loop-at.invariant.0 in (
-      c.step-over-at.ensures.within,
-      c.loop-at.invariant.1 ∙ ap (ahead _ _ _ _ _) c.in-Some.is ∙ pass (well c.args.self.now) c.args.way (answers (g.F.Filter.answer c.args.filter.now) c.args.self.now.rows.now) c.in-Some.id _ c.step-over-at.result (sym c.in-ExcludeNode.ensures) u c.in-None.ensures c.step-over-at.ensures,
+      c.step_over-at.ensures.within,
+      c.loop-at.invariant.1 ∙ ap (ahead _ _ _ _ _) c.in-Some.is ∙ pass (well c.args.self.now) c.args.way (answers (g.F.Filter.answer c.args.filter.now) c.args.self.now.rows.now) c.in-Some.id _ c.step_over-at.result (sym c.in-ExcludeNode.ensures) u c.in-None.ensures c.step_over-at.ensures,
     )
 
 pub loop-at-smaller : goal.loop-at-smaller
 loop-at-smaller g c =
     let u = subst (In _ _) c.in-Some.is c.loop-at.invariant.0 in
-    falls_over (well c.args.self.now) c.args.way c.in-Some.id _ c.loop-at.at c.step-over-at-in-ExcludeSubtree.result c.in-Some.is u c.step-over-at-in-ExcludeSubtree.ensures
+    falls_over (well c.args.self.now) c.args.way c.in-Some.id _ c.loop-at.at c.step_over-at-in-ExcludeSubtree.result c.in-Some.is u c.step_over-at-in-ExcludeSubtree.ensures
 
 pub loop-at-preserved : goal.loop-at-preserved
 loop-at-preserved g c =
     let u = subst (In _ _) c.in-Some.is c.loop-at.invariant.0 in (
-      c.step-over-at-in-ExcludeSubtree.ensures.within,
-      c.loop-at.invariant.1 ∙ ap (ahead _ _ _ _ _) c.in-Some.is ∙ skip (well c.args.self.now) c.args.way (answers (g.F.Filter.answer c.args.filter.now) c.args.self.now.rows.now) c.in-Some.id _ c.step-over-at-in-ExcludeSubtree.result (sym c.in-ExcludeSubtree.ensures) u c.step-over-at-in-ExcludeSubtree.ensures,
+      c.step_over-at-in-ExcludeSubtree.ensures.within,
+      c.loop-at.invariant.1 ∙ ap (ahead _ _ _ _ _) c.in-Some.is ∙ skip (well c.args.self.now) c.args.way (answers (g.F.Filter.answer c.args.filter.now) c.args.self.now.rows.now) c.in-Some.id _ c.step_over-at-in-ExcludeSubtree.result (sym c.in-ExcludeSubtree.ensures) u c.step_over-at-in-ExcludeSubtree.ensures,
     )

@@ -11,10 +11,10 @@ returns-in-Some c =
 
 pub returns-then-parent-base : goal.returns-then-parent-base
 returns-then-parent-base c =
-    record { within = tt; same = λ f. c.loop-sibling.invariant.1 f ∙ over_none (well c.args.self.now) c.args.way f _ _ c.loop-sibling.invariant.0 c.in-default.ensures c.if-parent-base.true }
+    record { within = tt; same = λ f. c.loop-sibling.invariant.1 f ∙ over_none (well c.args.self.now) c.args.way f _ _ c.loop-sibling.invariant.0 c.in_default.ensures c.if-parent-base.true }
 
 pub loop-sibling-preserved : goal.loop-sibling-preserved
 loop-sibling-preserved c =
     let w = well c.args.self.now in
     let u = c.loop-sibling.invariant.0 in
-    (climb w _ _ _ u.1 c.if-parent-base.false, λ f. c.loop-sibling.invariant.1 f ∙ over_climb w c.args.way f _ _ u c.in-default.ensures c.if-parent-base.false)
+    (climb w _ _ _ u.1 c.if-parent-base.false, λ f. c.loop-sibling.invariant.1 f ∙ over_climb w c.args.way f _ _ u c.in_default.ensures c.if-parent-base.false)
