@@ -8,10 +8,10 @@ pub returns : goal.returns
 returns g c =
     let s = c.args.s.now in
     let d = g.S.Source.doc s in
-    let n = c.count-of.result in
+    let n = c.count_of.result in
     let r = c.last-row.result.0 in
     let e : at c.root.result.0 r n ≡ document_end d =
-    ap (at c.root.result.0 r) c.count-of.ensures
+    ap (at c.root.result.0 r) c.count_of.ensures
     ∙ ap (λ o. at o r (size_of (count_in d.runs r))) c.root.ensures
     ∙ ap (λ t. at d.root t (size_of (count_in d.runs t))) c.last-row.ensures in
     record { edge = e; place = e ∙ end_place d (g.S.Source.sound s) }

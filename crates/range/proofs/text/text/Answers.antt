@@ -4,14 +4,14 @@ use Rattle.range.proofs.text.text.Goals as goal
 
 pub returns-then-buffer-need : goal.returns-then-buffer-need
 returns-then-buffer-need g c =
-    let a = c.in-ok-t.ensures in
-    let n = c.in-ok-need.ensures in
+    let a = c.in_ok-t.ensures in
+    let n = c.in_ok-need.ensures in
     (refl, (a.0, inr (n.0, c.if-buffer-need.true, n.1 ∙ ap (λ l. length (bytes_of l)) a.1.1)))
 
 pub write-requires : goal.write-requires
 write-requires g c =
-    let a = c.in-ok-t.ensures in
-    let n = c.in-ok-need.ensures in
+    let a = c.in_ok-t.ensures in
+    let n = c.in_ok-need.ensures in
     record {
       walked = a.1.0;
       stripped = n.0;
@@ -20,8 +20,8 @@ write-requires g c =
 
 pub returns : goal.returns
 returns g c =
-    let a = c.in-ok-t.ensures in
-    let n = c.in-ok-need.ensures in
+    let a = c.in_ok-t.ensures in
+    let n = c.in_ok-need.ensures in
     let e = a.1.1 in
     let w = c.write.ensures in
     let m = w.0 ∙ ap (λ l. length (bytes_of l)) e in (

@@ -9,15 +9,15 @@ use Rattle.range.proofs.text.write.Goals as goal
 pub loop-piece-init : goal.loop-piece-init
 loop-piece-init g c = (c.requires.walked, wrote_none (bytes_in (g.S.Source.doc c.args.s.now) c.args.t) c.args.buffer.now)
 
-pub slice-bounds-put-count : goal.slice-bounds-put-count
-slice-bounds-put-count g c =
+pub slice_bounds-put-count : goal.slice_bounds-put-count
+slice_bounds-put-count g c =
     let d = g.S.Source.doc c.args.s.now in
     let l = c.loop-piece in
     let z = room_for d (g.S.Source.sound c.args.s.now) c.args.t l.rest l.at c.args.buffer.now l.buffer c.in-Ok.piece.now l.invariant.0 l.invariant.1 c.requires.room c.in-Ok.ensures.1 in
     omega (arith, z)
 
-pub slice-bounds-put-start : goal.slice-bounds-put-start
-slice-bounds-put-start g c =
+pub slice_bounds-put-start : goal.slice_bounds-put-start
+slice_bounds-put-start g c =
     let d = g.S.Source.doc c.args.s.now in
     let l = c.loop-piece in
     let z = room_for d (g.S.Source.sound c.args.s.now) c.args.t l.rest l.at c.args.buffer.now l.buffer c.in-Ok.piece.now l.invariant.0 l.invariant.1 c.requires.room c.in-Ok.ensures.1 in
@@ -30,8 +30,8 @@ put-requires g c =
     let z = room_for d (g.S.Source.sound c.args.s.now) c.args.t l.rest l.at c.args.buffer.now l.buffer c.in-Ok.piece.now l.invariant.0 l.invariant.1 c.requires.room c.in-Ok.ensures.1 in
     simp (length-take, length-drop) (omega (arith, z))
 
-pub overflow-add-at : goal.overflow-add-at
-overflow-add-at g c =
+pub overflow_add-at : goal.overflow_add-at
+overflow_add-at g c =
     let d = g.S.Source.doc c.args.s.now in
     let l = c.loop-piece in
     let z = room_for d (g.S.Source.sound c.args.s.now) c.args.t l.rest l.at c.args.buffer.now l.buffer c.in-Ok.piece.now l.invariant.0 l.invariant.1 c.requires.room c.in-Ok.ensures.1 in

@@ -10,11 +10,11 @@ returns-in-Some g c =
     let s = c.args.s.now in
     let d = g.S.Source.doc s in
     let p = c.args.p in
-    let l = c.in-ok-biased-to-start.ensures.0 in
+    let l = c.in_ok-biased_to_start.ensures.0 in
     let k = count_of p.index (count_in d.runs p.row.0) l.1 in
     let ws = words_in d.runs p.row.0 in (
       l,
-      sym (ap (λ b. b || among p.index ws) (sym c.starts-paragraph.ensures ∙ c.if-starts-paragraph.false)
+      sym (ap (λ b. b || among p.index ws) (sym c.starts_paragraph.ensures ∙ c.if-starts_paragraph.false)
           ∙ among_first 0 k.0 p.index ws (rising_of d.runs p.row.0 k.0 (g.S.Source.sound s).runs k.1) (Some c.in-Some.start) c.in-Some.ensures),
     )
 
@@ -23,10 +23,10 @@ returns-in-None g c =
     let s = c.args.s.now in
     let d = g.S.Source.doc s in
     let p = c.args.p in
-    let l = c.in-ok-biased-to-start.ensures.0 in
+    let l = c.in_ok-biased_to_start.ensures.0 in
     let k = count_of p.index (count_in d.runs p.row.0) l.1 in
     let ws = words_in d.runs p.row.0 in (
       l,
-      sym (ap (λ b. b || among p.index ws) (sym c.starts-paragraph.ensures ∙ c.if-starts-paragraph.false)
+      sym (ap (λ b. b || among p.index ws) (sym c.starts_paragraph.ensures ∙ c.if-starts_paragraph.false)
           ∙ among_first 0 k.0 p.index ws (rising_of d.runs p.row.0 k.0 (g.S.Source.sound s).runs k.1) None c.in-None.ensures),
     )

@@ -7,7 +7,7 @@ pub returns-in-Some : goal.returns-in-Some
 returns-in-Some c =
     accept (
       subst (λ x. 2 ≤ x.role) c.row-role.ensures c.if-role-lt-LABEL.false,
-      subst (λ x. x.role ≤ 6) c.row-role.ensures c.if-role-gt-TEXT-INPUT.false,
+      subst (λ x. x.role ≤ 6) c.row-role.ensures c.if-role-gt-TEXT_INPUT.false,
       some_runs c.args.self.now c.in-Some.field-0 c.in-Some.ensures,
     )
 

@@ -10,8 +10,8 @@ pub returns-then-lengths-eq0 : goal.returns-then-lengths-eq0
 returns-then-lengths-eq0 c =
     accept (empty_first c.args.self.now c.requires c.in-Some.first c.in-Some.ensures (subst (λ (k : List ℕ). length k ≡ 0) c.lengths-lengths.ensures c.if-lengths-eq0.true))
 
-pub slice-bounds-character-end : goal.slice-bounds-character-end
-slice-bounds-character-end c =
+pub slice_bounds-character-end : goal.slice_bounds-character-end
+slice_bounds-character-end c =
     let n = c.if-lengths-eq0.false in
     let t = total_first c.lengths-lengths.result.now (omega arith) in
     let r = first_room c.args.self.now c.requires c.lengths-lengths.result.now c.text-text.result.now c.in-Some.first.0 c.lengths-lengths.ensures c.text-text.ensures (first_run c.args.self.now c.requires c.in-Some.first c.in-Some.ensures) in

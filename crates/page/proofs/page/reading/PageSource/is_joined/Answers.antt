@@ -5,8 +5,8 @@ use Rattle.rows.proofs.Tests.{granted, denied}
 use Rattle.page.proofs.Pages.{page_asked, page_asked_out, page_count}
 use Rattle.page.proofs.page.reading.PageSource.is_joined.Goals as goal
 
-pub returns-then-not-is-run : goal.returns-then-not-is-run
-returns-then-not-is-run c = page_asked_out c.args.self.now c.if-self.false (λ x. x.joined) c.args.row.0 (denied c.is-run.result c.is-run.ensures c.if-not-is-run.true)
+pub returns-then-not-is_run : goal.returns-then-not-is_run
+returns-then-not-is_run c = page_asked_out c.args.self.now c.if-self.false (λ x. x.joined) c.args.row.0 (denied c.is_run.result c.is_run.ensures c.if-not-is_run.true)
 
 pub returns : goal.returns
-returns c = let l = granted c.is-run.result c.is-run.ensures c.if-not-is-run.false in ap (λ x. Some (not (eqb x.next.0 65535))) c.row.ensures ∙ page_asked c.args.self.now c.if-self.false (λ x. x.joined) c.args.row.0 l
+returns c = let l = granted c.is_run.result c.is_run.ensures c.if-not-is_run.false in ap (λ x. Some (not (eqb x.next.0 65535))) c.row.ensures ∙ page_asked c.args.self.now c.if-self.false (λ x. x.joined) c.args.row.0 l

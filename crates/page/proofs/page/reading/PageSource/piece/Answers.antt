@@ -3,8 +3,8 @@ use Rattle.page.proofs.Pieces.{take_few, drop_few}
 use Rattle.page.proofs.Pages.{piece_end, piece_few, piece_small, piece_room, piece_bytes, piece_asked, unmasked}
 use Rattle.page.proofs.page.reading.PageSource.piece.Goals as goal
 
-pub slice-bounds-total-end : goal.slice-bounds-total-end
-slice-bounds-total-end c =
+pub slice_bounds-total-end : goal.slice_bounds-total-end
+slice_bounds-total-end c =
     let k = piece_end c.args.self.now c.if-self.false c.args.row.0 c.args.first c.args.behind c.in-Some.count c.in-Some.ensures c.if-first-behind.false c.if-behind-count.false c.lengths-lengths.result.now c.lengths-lengths.ensures in
     let a = c.if-first-behind.false in
     let b : c.args.first ≤ length c.lengths-lengths.result.now = omega arith in
@@ -16,8 +16,8 @@ total-from-requires c =
     let t = take_few (c.args.first - 0) c.lengths-lengths.result.now in
     omega arith
 
-pub slice-bounds-total-end-2 : goal.slice-bounds-total-end-2
-slice-bounds-total-end-2 c =
+pub slice_bounds-total-end-2 : goal.slice_bounds-total-end-2
+slice_bounds-total-end-2 c =
     let k = piece_end c.args.self.now c.if-self.false c.args.row.0 c.args.first c.args.behind c.in-Some.count c.in-Some.ensures c.if-first-behind.false c.if-behind-count.false c.lengths-lengths.result.now c.lengths-lengths.ensures in
     search rules
 
@@ -28,8 +28,8 @@ total-requires c =
     let t = take_few (c.args.behind - c.args.first) (drop c.args.first c.lengths-lengths.result.now) in
     omega arith
 
-pub overflow-add-to : goal.overflow-add-to
-overflow-add-to c =
+pub overflow_add-to : goal.overflow_add-to
+overflow_add-to c =
     let k = piece_small c.args.self.now c.if-self.false c.args.row.0 c.args.first c.args.behind c.in-Some.count c.in-Some.ensures c.if-first-behind.false c.if-behind-count.false c.lengths-lengths.result.now c.lengths-lengths.ensures c.total-from.result c.total.result c.total-from.ensures c.total.ensures in
     search rules
 

@@ -4,8 +4,8 @@ use Rattle.rows.proofs.Tests.{granted, denied}
 use Rattle.page.proofs.Pages.{page_words, page_words_out}
 use Rattle.page.proofs.page.reading.PageSource.word_start_before.Goals as goal
 
-pub returns-then-not-is-run : goal.returns-then-not-is-run
-returns-then-not-is-run c = ap (last_below c.args.index) (page_words_out c.args.self.now c.if-self.false c.args.row.0 (denied c.is-run.result c.is-run.ensures c.if-not-is-run.true))
+pub returns-then-not-is_run : goal.returns-then-not-is_run
+returns-then-not-is_run c = ap (last_below c.args.index) (page_words_out c.args.self.now c.if-self.false c.args.row.0 (denied c.is_run.result c.is_run.ensures c.if-not-is_run.true))
 
 pub returns : goal.returns
-returns c = c.last-before.ensures ∙ ap (last_below c.args.index) (c.words.ensures ∙ page_words c.args.self.now c.if-self.false c.args.row.0 (granted c.is-run.result c.is-run.ensures c.if-not-is-run.false))
+returns c = c.last_before.ensures ∙ ap (last_below c.args.index) (c.words.ensures ∙ page_words c.args.self.now c.if-self.false c.args.row.0 (granted c.is_run.result c.is_run.ensures c.if-not-is_run.false))
