@@ -5,7 +5,7 @@ use Rattle.std.proofs.Math.Logic.{∥∥₁_elim}
 use mathlib.Core.HLevel.{Unit-prop, Π_prop, ×_prop, ⊥_prop}
 use Rattle.std.proofs.Math.Bridge.{le_prop}
 use Rattle.std.specs.Coded.{coded_bool}
-use denote.Struct.Props.{three_prop, ≡_prop}
+use denote.Struct.Props.{≡_prop}
 use Rattle.std.proofs.lemmas.Bool.{cond-true, cond-false, cases_eq, ne_eqb, false≢true}
 use Rattle.std.proofs.lemmas.List.{length-take-le, get_or-drop}
 use Rattle.unicode_text.specs.Table.{WellFormed}
@@ -146,6 +146,9 @@ module _ (d : Draft) where
 
 -- That a source is sound comes out of a truncation: what is no proposition by its form is told by a
 -- test.
+three_prop : {A B C : Type 0} → IsProp A → IsProp B → IsProp C → IsProp (A × B × C)
+three_prop h k l u v = λ i. (h u.0 v.0 i, k u.1 v.1 i, l u.2 v.2 i)
+
 rising_prop : (low n : ℕ) (ws : List ℕ) → IsProp (Rising low n ws)
 rising_prop low n [] = Unit-prop
 rising_prop low n (w ∷ ws) = three_prop le_prop le_prop (rising_prop (suc w) n ws)

@@ -15,8 +15,8 @@ pub loop-n-preserved : goal.loop-n-preserved
 loop-n-preserved c =
     let i = c.loop-n.invariant.0 in
     let z = c.if-n-eq0.false in
-    let m : get_or c.args.lengths.now c.loop-n.n-index 0 ≤ 255 = let t = c.type-inv.lengths c.loop-n.n-index in search rules in
-    let t = c.type-inv.lengths c.loop-n.n-index in
+    let m : get_or c.args.lengths.now c.loop-n.n-index 0 ≤ 255 = let t = c.type_inv.lengths c.loop-n.n-index in search rules in
+    let t = c.type_inv.lengths c.loop-n.n-index in
     let b : c.loop-n.at + get_or c.args.lengths.now c.loop-n.n-index 0 ≤ 255 * (c.loop-n.n-index + 1) = search rules in
     let w = c.is_utf8.ensures.table.0 c.if-not-is_utf8.false in
     (b, ended_more c.args.text.now c.args.lengths.now c.loop-n.n-index c.loop-n.at c.loop-n-test.true (Ended c.args.text.now 0 c.args.lengths.now) (omega arith) m ((c.is_boundary.ensures.between w).0 c.if-not-is_boundary.false) c.loop-n.invariant.1)

@@ -6,47 +6,47 @@ pub loop-index-init : goal.loop-index-init
 loop-index-init g c =
     let s = c.args.s.now in
     let d = g.S.Source.doc s in
-    let b = c.in-ok-q.ensures in
-    behind_begin d (g.M.Marks.marks c.args.m.now d) (g.S.Source.sound s) c.args.p c.in-ok-q.q b.0 b.1.0
+    let b = c.in_ok-q.ensures in
+    behind_begin d (g.M.Marks.marks c.args.m.now d) (g.S.Source.sound s) c.args.p c.in_ok-q.q b.0 b.1.0
 
 pub returns-in-Some : goal.returns-in-Some
 returns-in-Some g c =
     let s = c.args.s.now in
     let d = g.S.Source.doc s in
-    let b = c.in-ok-q.ensures in
-    found_behind d (g.M.Marks.marks c.args.m.now d) (g.S.Source.sound s) c.args.p c.in-ok-q.q b.0 b.1.0 c.loop-index.row.0 c.loop-index.below c.in-Some.index c.loop-index.invariant (c.in-Some.ensures c.loop-index.invariant.within)
+    let b = c.in_ok-q.ensures in
+    found_behind d (g.M.Marks.marks c.args.m.now d) (g.S.Source.sound s) c.args.p c.in_ok-q.q b.0 b.1.0 c.loop-index.row.0 c.loop-index.below c.in-Some.index c.loop-index.invariant (c.in-Some.ensures c.loop-index.invariant.within)
 
 pub returns-else-q-gt0 : goal.returns-else-q-gt0
 returns-else-q-gt0 g c =
     let s = c.args.s.now in
     let d = g.S.Source.doc s in
-    let b = c.in-ok-q.ensures in
-    (b.0, start_behind d (g.M.Marks.marks c.args.m.now d) (g.S.Source.sound s) c.args.p c.in-ok-q.q b.0 b.1.0 c.loop-index.row.0 c.loop-index.below c.loop-index.invariant c.in-default-previous.ensures c.if-q-gt0.false.0 c.if-q-gt0.false.1)
+    let b = c.in_ok-q.ensures in
+    (b.0, start_behind d (g.M.Marks.marks c.args.m.now d) (g.S.Source.sound s) c.args.p c.in_ok-q.q b.0 b.1.0 c.loop-index.row.0 c.loop-index.below c.loop-index.invariant c.in_default-previous.ensures c.if-q-gt0.false.0 c.if-q-gt0.false.1)
 
 pub returns-then-q-gt0 : goal.returns-then-q-gt0
 returns-then-q-gt0 g c =
     let s = c.args.s.now in
     let d = g.S.Source.doc s in
-    let b = c.in-ok-q.ensures in
-    other_behind d (g.M.Marks.marks c.args.m.now d) (g.S.Source.sound s) c.args.p c.in-ok-q.q b.0 b.1.0 c.loop-index.row.0 c.loop-index.below c.loop-index.invariant (c.in-default.ensures c.loop-index.invariant.within) c.in-default-previous.ensures (⊎_elim (λ n e. n (ap (λ t. t.row.0) e)) (λ w e. let z : c.in-ok-q.q.index ≡ 0 = ap (λ t. t.index) e in omega (arith, w.1)) c.if-q-gt0.either)
+    let b = c.in_ok-q.ensures in
+    other_behind d (g.M.Marks.marks c.args.m.now d) (g.S.Source.sound s) c.args.p c.in_ok-q.q b.0 b.1.0 c.loop-index.row.0 c.loop-index.below c.loop-index.invariant (c.in_default.ensures c.loop-index.invariant.within) c.in_default-previous.ensures (⊎_elim (λ n e. n (ap (λ t. t.row.0) e)) (λ w e. let z : c.in_ok-q.q.index ≡ 0 = ap (λ t. t.index) e in omega (arith, w.1)) c.if-q-gt0.either)
 
-pub returns-in-default-character-count : goal.returns-in-default-character-count
-returns-in-default-character-count g c =
+pub returns-in_default-character_count : goal.returns-in_default-character_count
+returns-in_default-character_count g c =
     let s = c.args.s.now in
     let d = g.S.Source.doc s in
-    let b = c.in-ok-q.ensures in
-    λ l. behind_none d (g.M.Marks.marks c.args.m.now d) (g.S.Source.sound s) c.args.p c.in-ok-q.q b.0 b.1.0 c.loop-index.row.0 c.in-Some-previous.before c.in-Some-previous.ensures c.in-default-character-count.ensures
+    let b = c.in_ok-q.ensures in
+    λ l. behind_none d (g.M.Marks.marks c.args.m.now d) (g.S.Source.sound s) c.args.p c.in_ok-q.q b.0 b.1.0 c.loop-index.row.0 c.in-Some-previous.before c.in-Some-previous.ensures c.in_default-character_count.ensures
 
 pub loop-index-smaller : goal.loop-index-smaller
 loop-index-smaller g c =
     let s = c.args.s.now in
     let d = g.S.Source.doc s in
-    let b = c.in-ok-q.ensures in
-    behind_falls d (g.M.Marks.marks c.args.m.now d) (g.S.Source.sound s) c.args.p c.in-ok-q.q b.0 b.1.0 c.loop-index.row.0 c.in-Some-previous.before c.in-Some-character-count.n c.in-Some-previous.ensures c.in-Some-character-count.ensures
+    let b = c.in_ok-q.ensures in
+    behind_falls d (g.M.Marks.marks c.args.m.now d) (g.S.Source.sound s) c.args.p c.in_ok-q.q b.0 b.1.0 c.loop-index.row.0 c.in-Some-previous.before c.in-Some-character_count.n c.in-Some-previous.ensures c.in-Some-character_count.ensures
 
 pub loop-index-preserved : goal.loop-index-preserved
 loop-index-preserved g c =
     let s = c.args.s.now in
     let d = g.S.Source.doc s in
-    let b = c.in-ok-q.ensures in
-    behind_more d (g.M.Marks.marks c.args.m.now d) (g.S.Source.sound s) c.args.p c.in-ok-q.q b.0 b.1.0 c.loop-index.row.0 c.loop-index.below c.in-Some-previous.before c.in-Some-character-count.n c.loop-index.invariant (c.in-default.ensures c.loop-index.invariant.within) c.in-Some-previous.ensures c.in-Some-character-count.ensures
+    let b = c.in_ok-q.ensures in
+    behind_more d (g.M.Marks.marks c.args.m.now d) (g.S.Source.sound s) c.args.p c.in_ok-q.q b.0 b.1.0 c.loop-index.row.0 c.loop-index.below c.in-Some-previous.before c.in-Some-character_count.n c.loop-index.invariant (c.in_default.ensures c.loop-index.invariant.within) c.in-Some-previous.ensures c.in-Some-character_count.ensures

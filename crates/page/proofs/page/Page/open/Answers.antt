@@ -6,8 +6,8 @@ use Rattle.page.proofs.Pages.{same_sheet}
 use Rattle.page.proofs.Verdicts.{one_opening}
 use Rattle.page.proofs.page.Page.open.Goals as goal
 
-pub invariant-of-result-in-None-verdict : goal.invariant-of-result-in-None-verdict
-invariant-of-result-in-None-verdict c = ((λ e. ∣ c.in-None-verdict.ensures ∣₁), tt)
+pub invariant_of-result-in-None-verdict : goal.invariant_of-result-in-None-verdict
+invariant_of-result-in-None-verdict c = record { ordered = λ e. ∣ c.in-None-verdict.ensures ∣₁ }
 
 pub returns-in-Some : goal.returns-in-Some
 returns-in-Some c =
