@@ -7,14 +7,14 @@ use Rattle.moves.proofs.line.forward_to_line_end.Goals as goal
 pub loop-row-init : goal.loop-row-init
 loop-row-init g c =
     let s = c.args.s.now in
-    let b = c.in-ok-q.ensures in
-    (begins (g.S.Source.doc s) (g.S.Source.sound s) c.args.p c.in-ok-q.q b.0 b.1.0, refl)
+    let b = c.in_ok-q.ensures in
+    (begins (g.S.Source.doc s) (g.S.Source.sound s) c.args.p c.in_ok-q.q b.0 b.1.0, refl)
 
-pub returns-in-default : goal.returns-in-default
-returns-in-default g c =
+pub returns-in_default : goal.returns-in_default
+returns-in_default g c =
     let s = c.args.s.now in
     let xs = (g.S.Source.doc s).runs in
-    (refl, λ l. both_ways (joins xs c.loop-row.row.0) (last_ends xs c.loop-row.row.0 (g.S.Source.sound s).listed c.in-default.ensures) (sym c.joins.ensures ∙ c.loop-row-test.true))
+    (refl, λ l. both_ways (joins xs c.loop-row.row.0) (last_ends xs c.loop-row.row.0 (g.S.Source.sound s).listed c.in_default.ensures) (sym c.joins.ensures ∙ c.loop-row-test.true))
 
 pub loop-row-smaller : goal.loop-row-smaller
 loop-row-smaller g c =
@@ -29,8 +29,8 @@ loop-row-preserved g c =
     let e = c.in-Some.ensures in
     (row_on d (g.S.Source.sound s) c.loop-row.row.0 c.in-Some.next w e, c.loop-row.invariant.1 ∙ row_line d (g.S.Source.sound s) c.loop-row.row.0 c.in-Some.next w (sym c.joins.ensures ∙ c.loop-row-test.true) e)
 
-pub returns-in-Some-character-count : goal.returns-in-Some-character-count
-returns-in-Some-character-count g c =
+pub returns-in-Some-character_count : goal.returns-in-Some-character_count
+returns-in-Some-character_count g c =
     let s = c.args.s.now in
-    let b = c.in-ok-q.ensures in
-    (b.0, line_found (g.S.Source.doc s) (g.S.Source.sound s) c.args.p c.in-ok-q.q c.loop-row.row c.in-Some-character-count.index b.0 b.1 c.loop-row.invariant.1 c.loop-row.invariant.0 (sym c.joins.ensures ∙ c.loop-row-test.false) c.in-Some-character-count.ensures)
+    let b = c.in_ok-q.ensures in
+    (b.0, line_found (g.S.Source.doc s) (g.S.Source.sound s) c.args.p c.in_ok-q.q c.loop-row.row c.in-Some-character_count.index b.0 b.1 c.loop-row.invariant.1 c.loop-row.invariant.0 (sym c.joins.ensures ∙ c.loop-row-test.false) c.in-Some-character_count.ensures)

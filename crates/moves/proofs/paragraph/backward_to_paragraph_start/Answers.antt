@@ -12,15 +12,15 @@ loop-e-init g c = (λ q r. r, λ l. l, λ l. l)
 pub returns-in-Err : goal.returns-in-Err
 returns-in-Err g c = let x = c.in-Err.ensures in record { repeats = (x.0, λ l. x.1 (c.loop-e.invariant.1 l)); lands = (x.0, λ l. x.1 (c.loop-e.invariant.1 l)) }
 
-pub returns-then-starts-paragraph : goal.returns-then-starts-paragraph
-returns-then-starts-paragraph g c =
+pub returns-then-starts_paragraph : goal.returns-then-starts_paragraph
+returns-then-starts_paragraph g c =
     let s = c.args.s.now in
     let d = g.S.Source.doc s in
     let q = c.in-Ok.q in
     let x = c.in-Ok.ensures in
     let l = c.loop-e.invariant.2 x.0 in
     let r : Repeats (LineBack d) (starts_paragraph d) c.args.p q =
-    c.loop-e.invariant.0 q (record { times = zero; moves = (x.1, sym c.starts-paragraph.ensures ∙ c.if-starts-paragraph.true) }) in
+    c.loop-e.invariant.0 q (record { times = zero; moves = (x.1, sym c.starts_paragraph.ensures ∙ c.if-starts_paragraph.true) }) in
     record { repeats = (l, r); lands = (l, back_closed d (g.S.Source.sound s) r.times c.args.p q l r.moves) }
 
 pub loop-e-preserved : goal.loop-e-preserved
@@ -32,7 +32,7 @@ loop-e-preserved g c =
     let x = c.in-Ok.ensures in
     let l = x.0 in
     let v = x.1 in
-    let e = sym c.starts-paragraph.ensures ∙ c.if-starts-paragraph.false in (
+    let e = sym c.starts_paragraph.ensures ∙ c.if-starts_paragraph.false in (
       λ t r. c.loop-e.invariant.0 t (record { times = suc r.times; moves = (q, v, e, r.moves) }),
       λ f. back_lawful d (g.S.Source.sound s) cur q l v,
       λ f. c.loop-e.invariant.2 l,
@@ -45,5 +45,5 @@ loop-e-smaller g c =
     let cur = c.loop-e.current in
     let q = c.in-Ok.q in
     let x = c.in-Ok.ensures in
-    let e = sym c.starts-paragraph.ensures ∙ c.if-starts-paragraph.false in
+    let e = sym c.starts_paragraph.ensures ∙ c.if-starts_paragraph.false in
     back_falls d (g.S.Source.sound s) cur q x.0 x.1 e
