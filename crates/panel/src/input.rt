@@ -1,6 +1,6 @@
 // The lines of standard input, one at a time. A line can be handed back, to be read again.
 use std::alloc::Global;
-use std::io::{BufRead, BufReader, Stdin};
+use std::io::{self, BufRead, BufReader, Stdin};
 
 #[derive(Drop)]
 pub struct Input {
@@ -11,13 +11,13 @@ pub struct Input {
 }
 
 impl Input {
-    pub fn new(rt: &HostRuntime) -> Input {
+    pub fn new(rt: &HostRuntime) -> io::Result<Input> {
         let heap: Global = rt.alloc();
-        Input {
-            reader: BufReader::new(rt.stdin()),
+        Ok(Input {
+            reader: BufReader::new(heap, rt.stdin())?,
             line: Vec::new(heap),
             kept: false,
-        }
+        })
     }
 
     // Goes to the next line; false where there is none.

@@ -86,7 +86,7 @@ fn answer_other(
 }
 
 fn main(rt: HostRuntime) -> anyhow::Result<()> {
-    let mut input = Input::new(&rt);
+    let mut input = Input::new(&rt)?;
     let mut tables = Builder::new(rt.alloc());
     let mut strip = Strip::bullets(rt.alloc())?;
     for _ in 0..u64::MAX {

@@ -11,31 +11,31 @@ pub loop-row-init : goal.loop-row-init
 loop-row-init g c =
     let d = g.S.Source.doc c.args.s.now in
     let p = c.args.p in
-    let l = c.in-ok-biased-to-start.ensures.0 in
+    let l = c.in_ok-biased_to_start.ensures.0 in
     (l, subst (λ r. Toward g.M.Measure.units d.runs p.row.0 p.index r 0) (sym c.first-row.ensures) (toward_first g.M.Measure.units d.runs p.row.0 p.index l.1))
 
-pub returns-in-default : goal.returns-in-default
-returns-in-default g c =
+pub returns-in_default : goal.returns-in_default
+returns-in_default g c =
     let d = g.S.Source.doc c.args.s.now in
     let p = c.args.p in
-    (refl, λ l. subst (Within 0) (sym c.in-default.ensures) (ahead_here d.runs c.loop-row.row.0 p.row.0 p.index c.loop-row.invariant.1.ahead))
+    (refl, λ l. subst (Within 0) (sym c.in_default.ensures) (ahead_here d.runs c.loop-row.row.0 p.row.0 p.index c.loop-row.invariant.1.ahead))
 
-pub returns-in-default-next : goal.returns-in-default-next
-returns-in-default-next g c =
+pub returns-in_default-next : goal.returns-in_default-next
+returns-in_default-next g c =
     let d = g.S.Source.doc c.args.s.now in
     let p = c.args.p in
-    (refl, λ l. ahead_next d.runs c.loop-row.row.0 p.row.0 p.index c.loop-row-test.true c.loop-row.invariant.1.ahead c.in-default-next.ensures)
+    (refl, λ l. ahead_next d.runs c.loop-row.row.0 p.row.0 p.index c.loop-row-test.true c.loop-row.invariant.1.ahead c.in_default-next.ensures)
 
-whole : (g : given.Over) (c : goal.In-Some-next g) → c.in-Some-run-units.units ≡ sum_all g.M.Measure.units (characters_in (g.S.Source.doc c.args.s.now).runs c.loop-row.row.0)
+whole : (g : given.Over) (c : goal.In-Some-next g) → c.in-Some-run_units.units ≡ sum_all g.M.Measure.units (characters_in (g.S.Source.doc c.args.s.now).runs c.loop-row.row.0)
 whole g c =
     let s = c.args.s.now in
-    all_units g.M.Measure.units (g.S.Source.doc s) (g.S.Source.sound s) c.loop-row.row.0 c.in-Some.n c.in-Some-run-units.units c.in-Some.ensures c.in-Some-run-units.ensures
+    all_units g.M.Measure.units (g.S.Source.doc s) (g.S.Source.sound s) c.loop-row.row.0 c.in-Some.n c.in-Some-run_units.units c.in-Some.ensures c.in-Some-run_units.ensures
 
-pub overflow-add-sum : goal.overflow-add-sum
-overflow-add-sum g c =
+pub overflow_add-sum : goal.overflow_add-sum
+overflow_add-sum g c =
     let s = c.args.s.now in
     let p = c.args.p in
-    record { fits = toward_fits g.M.Measure.units g.met.M.Measure.most (g.S.Source.doc s) (g.S.Source.sound s) p.row.0 p.index c.loop-row.row.0 c.loop-row.sum c.loop-row.invariant.1 c.in-Some.n c.in-Some-run-units.units c.in-Some.ensures (whole g c) }
+    record { fits = toward_fits g.M.Measure.units g.met.M.Measure.most (g.S.Source.doc s) (g.S.Source.sound s) p.row.0 p.index c.loop-row.row.0 c.loop-row.sum c.loop-row.invariant.1 c.in-Some.n c.in-Some-run_units.units c.in-Some.ensures (whole g c) }
 
 pub loop-row-smaller : goal.loop-row-smaller
 loop-row-smaller g c =
@@ -49,15 +49,15 @@ pub loop-row-preserved : goal.loop-row-preserved
 loop-row-preserved g c =
     let s = c.args.s.now in
     let p = c.args.p in
-    (c.loop-row.invariant.0, toward_more g.M.Measure.units g.met.M.Measure.most (g.S.Source.doc s) (g.S.Source.sound s) p.row.0 p.index c.loop-row.row.0 c.loop-row.sum c.loop-row.invariant.1 c.in-Some.n c.in-Some-run-units.units c.in-Some-next.next c.in-Some.ensures (whole g c) c.loop-row-test.true c.in-Some-next.ensures)
+    (c.loop-row.invariant.0, toward_more g.M.Measure.units g.met.M.Measure.most (g.S.Source.doc s) (g.S.Source.sound s) p.row.0 p.index c.loop-row.row.0 c.loop-row.sum c.loop-row.invariant.1 c.in-Some.n c.in-Some-run_units.units c.in-Some-next.next c.in-Some.ensures (whole g c) c.loop-row-test.true c.in-Some-next.ensures)
 
-pub overflow-add-result : goal.overflow-add-result
-overflow-add-result g c =
+pub overflow_add-result : goal.overflow_add-result
+overflow_add-result g c =
     let s = c.args.s.now in
     let d = g.S.Source.doc s in
     let p = c.args.p in
     let r = c.loop-row.row.0 in
-    record { fits = toward_last g.M.Measure.units g.met.M.Measure.most d (g.S.Source.sound s) p.row.0 p.index r c.loop-row.sum c.loop-row.invariant.1 c.in-Some-run-units-2.own_val c.loop-row-test.false (front_units g.M.Measure.units d (g.S.Source.sound s) r p.index c.in-Some-run-units-2.own_val c.in-Some-run-units-2.ensures) }
+    record { fits = toward_last g.M.Measure.units g.met.M.Measure.most d (g.S.Source.sound s) p.row.0 p.index r c.loop-row.sum c.loop-row.invariant.1 c.in-Some-run_units-2.own c.loop-row-test.false (front_units g.M.Measure.units d (g.S.Source.sound s) r p.index c.in-Some-run_units-2.own c.in-Some-run_units-2.ensures) }
 
 pub returns : goal.returns
 returns g c =
@@ -66,4 +66,4 @@ returns g c =
     let p = c.args.p in
     let r = c.loop-row.row.0 in
     let l = c.loop-row.invariant.0 in
-    (l, toward_end g.M.Measure.units g.met.M.Measure.most d (g.S.Source.sound s) p.row.0 p.index r c.loop-row.sum c.loop-row.invariant.1 c.in-Some-run-units-2.own_val c.loop-row-test.false (front_units g.M.Measure.units d (g.S.Source.sound s) r p.index c.in-Some-run-units-2.own_val c.in-Some-run-units-2.ensures) ∙ index_is g.M.Measure.units d (g.S.Source.sound s) p l)
+    (l, toward_end g.M.Measure.units g.met.M.Measure.most d (g.S.Source.sound s) p.row.0 p.index r c.loop-row.sum c.loop-row.invariant.1 c.in-Some-run_units-2.own c.loop-row-test.false (front_units g.M.Measure.units d (g.S.Source.sound s) r p.index c.in-Some-run_units-2.own c.in-Some-run_units-2.ensures) ∙ index_is g.M.Measure.units d (g.S.Source.sound s) p l)

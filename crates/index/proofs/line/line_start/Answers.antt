@@ -9,10 +9,10 @@ loop-left-init g c =
     let d = g.S.Source.doc s in
     subst (λ r. Finding d c.args.index r c.args.index) (sym c.first-row.ensures) (finding_first d (g.S.Source.sound s) c.args.index)
 
-pub returns-in-default : goal.returns-in-default
-returns-in-default g c =
+pub returns-in_default : goal.returns-in_default
+returns-in_default g c =
     let s = c.args.s.now in
-    finding_none (g.S.Source.doc s) (g.S.Source.sound s) c.args.index c.loop-left.row.0 c.loop-left.left c.loop-left.invariant c.loop-left-test.true c.in-default.ensures
+    finding_none (g.S.Source.doc s) (g.S.Source.sound s) c.args.index c.loop-left.row.0 c.loop-left.left c.loop-left.invariant c.loop-left-test.true c.in_default.ensures
 
 pub loop-left-smaller : goal.loop-left-smaller
 loop-left-smaller g c =
@@ -24,8 +24,8 @@ loop-left-smaller g c =
 pub loop-left-preserved : goal.loop-left-preserved
 loop-left-preserved g c =
     let s = c.args.s.now in
-    let v = c.line-ends-left.ensures in
-    finding_more (g.S.Source.doc s) (g.S.Source.sound s) c.args.index c.loop-left.row.0 c.loop-left.left c.loop-left.invariant c.line-ends-left.result c.in-Some.next c.loop-left-test.true v.small v.value c.in-Some.ensures
+    let v = c.line_ends-left.ensures in
+    finding_more (g.S.Source.doc s) (g.S.Source.sound s) c.args.index c.loop-left.row.0 c.loop-left.left c.loop-left.invariant c.line_ends-left.result c.in-Some.next c.loop-left-test.true v.small v.value c.in-Some.ensures
 
 pub returns : goal.returns
 returns g c =

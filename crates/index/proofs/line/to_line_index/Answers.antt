@@ -7,22 +7,22 @@ pub loop-row-init : goal.loop-row-init
 loop-row-init g c =
     let d = g.S.Source.doc c.args.s.now in
     let p = c.args.p in
-    let l = c.in-ok-biased-to-start.ensures.0 in
+    let l = c.in_ok-biased_to_start.ensures.0 in
     (l, subst (λ r. Counts d.runs p.row.0 p.index r 0) (sym c.first-row.ensures) (counts_first d.runs p.row.0 p.index l.1))
 
-pub returns-in-default : goal.returns-in-default
-returns-in-default g c =
+pub returns-in_default : goal.returns-in_default
+returns-in_default g c =
     let d = g.S.Source.doc c.args.s.now in
     let p = c.args.p in
-    (refl, λ l. ahead_next d.runs c.loop-row.row.0 p.row.0 p.index c.loop-row-test.true c.loop-row.invariant.1.ahead c.in-default.ensures)
+    (refl, λ l. ahead_next d.runs c.loop-row.row.0 p.row.0 p.index c.loop-row-test.true c.loop-row.invariant.1.ahead c.in_default.ensures)
 
-pub overflow-add-lines : goal.overflow-add-lines
-overflow-add-lines g c =
+pub overflow_add-lines : goal.overflow_add-lines
+overflow_add-lines g c =
     let s = c.args.s.now in
     let f = (g.S.Source.sound s).few in
     let r = c.loop-row.invariant.1.room in
-    let v = c.line-ends-lines.ensures.small in
-    let z : c.loop-row.lines + c.line-ends-lines.result < 18446744073709551616 = omega (arith, f, r, v) in
+    let v = c.line_ends-lines.ensures.small in
+    let z : c.loop-row.lines + c.line_ends-lines.result < 18446744073709551616 = omega (arith, f, r, v) in
     record { fits = z }
 
 pub loop-row-smaller : goal.loop-row-smaller
@@ -37,8 +37,8 @@ pub loop-row-preserved : goal.loop-row-preserved
 loop-row-preserved g c =
     let s = c.args.s.now in
     let p = c.args.p in
-    let v = c.line-ends-lines.ensures in
-    (c.loop-row.invariant.0, counts_more (g.S.Source.doc s) (g.S.Source.sound s) p.row.0 p.index c.loop-row.row.0 c.loop-row.lines c.line-ends-lines.result c.loop-row.invariant.1 v.value c.in-Some.next v.small c.loop-row-test.true c.in-Some.ensures)
+    let v = c.line_ends-lines.ensures in
+    (c.loop-row.invariant.0, counts_more (g.S.Source.doc s) (g.S.Source.sound s) p.row.0 p.index c.loop-row.row.0 c.loop-row.lines c.line_ends-lines.result c.loop-row.invariant.1 v.value c.in-Some.next v.small c.loop-row-test.true c.in-Some.ensures)
 
 pub returns : goal.returns
 returns g c =

@@ -8,6 +8,6 @@ returns g c =
     let d = g.S.Source.doc c.args.source in
     record {
       source = refl;
-      range = ap (λ p. range p p) c.document-start-start.ensures.place;
+      range = ap (λ p. range p p) c.document_start-start.ensures.place;
       reads = reads_laws d (g.S.Source.sound c.args.source);
     }
