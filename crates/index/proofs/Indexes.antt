@@ -1,17 +1,16 @@
 -- The index of a position, summed up run by run.
-use Rattle.std.proofs.Common.{◌≡◌, ℕ, zero, suc, ◌+◌, ◌-◌, ◌*◌, ◌<◌, ◌≤◌, Bool, true, false, cond, eqb, List, [], ◌∷◌, ◌++◌, length, take, drop, Some, None, Option, sym, refl, ap, ◌∙◌, subst, inl, inr, ⊎_elim, arith}
-use Rattle.std.proofs.lemmas.Bool.{eqb-true, eq-eqb, ne_eqb, cases_Bool, cond-true, cond-false}
+use Rattle.std.proofs.Common.{◌≡◌, ℕ, zero, suc, ◌+◌, ◌-◌, ◌*◌, ◌<◌, ◌≤◌, cond, eqb, List, [], ◌∷◌, ◌++◌, length, take, drop, Some, None, sym, refl, ap, ◌∙◌, subst, ⊎_elim, arith}
+use Rattle.std.proofs.lemmas.Bool.{eq-eqb, ne_eqb, cases_Bool, cond-true, cond-false}
 use Rattle.std.proofs.lemmas.List.{take_all}
 use Rattle.rows.specs.declared.node.NodeId.{NodeId}
-use Rattle.source.specs.Runs.{Run, Document, Sound, SoundRun, Character, Every, count, Listed, count_in, next_in, first_row, characters_in}
-use Rattle.source.specs.Pieces.{Within, Asked}
+use Rattle.source.specs.Runs.{Run, Document, Sound, SoundRun, Character, Every, count, count_in, next_in, first_row, characters_in}
+use Rattle.source.specs.Pieces.{Within}
 use Rattle.position.specs.declared.position.Position.{Position}
-use Rattle.position.specs.Places.{Lawful, offset_in, total_in, offset, total}
-use Rattle.position.proofs.Options.{some_same, not_none, count_of}
+use Rattle.position.specs.Places.{Lawful, offset_in, offset}
 use Rattle.position.proofs.Places.{count_later}
 use Rattle.position.specs.Places.{characters_of}
-use Rattle.index.specs.Measured.{measured, index_at, RunUnits}
-use Rattle.index.proofs.Sums.{sum_all, measured_all, all_append, all_take, all_small, every_take, every_append, run_characters, count_chars, count_small}
+use Rattle.index.specs.Measured.{index_at, RunUnits}
+use Rattle.index.proofs.Sums.{sum_all, measured_all, all_small, every_take, every_append, run_characters, count_chars, count_small}
 use Rattle.index.proofs.Walks.{suffix, suffix_first, Here, here_of, then_at, ahead_here}
 
 -- the units before an index of a run

@@ -1,5 +1,5 @@
 -- Why each index call leaves one answer, and why an index leads back to its place.
-use Rattle.std.proofs.Common.{◌≡◌, ℕ, zero, suc, ◌+◌, ◌-◌, ◌<◌, ◌≤◌, List, [], ◌∷◌, ◌++◌, length, take, drop, Ok, Err, Result, sym, refl, ap, ◌∙◌, subst, inl, inr, ⊎_elim, arith}
+use Rattle.std.proofs.Common.{◌≡◌, ℕ, zero, suc, ◌+◌, ◌-◌, ◌<◌, ◌≤◌, List, [], ◌∷◌, length, take, Ok, Err, Result, sym, refl, ap, ◌∙◌, inl, inr, ⊎_elim, arith}
 use Rattle.std.proofs.lemmas.Bool.{cases_lt}
 use Rattle.rows.specs.declared.refusal.Refusal.{Refusal}
 use Rattle.unicode_text.specs.Scalars.{scalars, encodings}
@@ -13,7 +13,7 @@ use Rattle.position.proofs.Places.{offset_inside}
 use Rattle.position.proofs.Laws.{answers_single}
 use Rattle.position.specs.Places.{characters_of}
 use Rattle.index.specs.Measured.{index_at, Holds, Finds}
-use Rattle.index.specs.LineIndexes.{Ranges, LineRange}
+use Rattle.index.specs.LineIndexes.{LineRange}
 use Rattle.index.specs.Laws.{Singles}
 use Rattle.index.proofs.Sums.{sum_all, all_take}
 use Rattle.index.proofs.Indexes.{text_characters}

@@ -1,13 +1,13 @@
 -- Counting lines along a walk.
-use Rattle.std.proofs.Common.{◌≡◌, ℕ, zero, suc, ◌+◌, ◌-◌, ◌<◌, ◌≤◌, Bool, true, false, cond, eqb, List, [], ◌∷◌, length, Some, None, Option, sym, refl, ap, ◌∙◌, subst, inl, inr, ⊎_elim, arith}
-use Rattle.std.proofs.lemmas.Bool.{eqb-true, eq-eqb, ne_eqb, cases_Bool, cond_both, cond-true, cond-false}
+use Rattle.std.proofs.Common.{◌≡◌, ℕ, zero, suc, ◌+◌, ◌-◌, ◌<◌, ◌≤◌, Bool, true, false, cond, eqb, List, [], ◌∷◌, length, Some, None, Option, sym, refl, ap, ◌∙◌, subst, ⊎_elim, arith}
+use Rattle.std.proofs.lemmas.Bool.{eq-eqb, ne_eqb, cases_Bool, cond_both, cond-true, cond-false}
 use Rattle.rows.specs.declared.node.NodeId.{NodeId}
-use Rattle.source.specs.Runs.{Run, Document, Sound, SoundRun, Every, count, row_id, Listed, count_in, next_in, first_row, joined_in}
+use Rattle.source.specs.Runs.{Run, Document, Sound, count, row_id, Listed, count_in, next_in, first_row, joined_in}
 use Rattle.source.specs.Pieces.{Within}
 use Rattle.position.specs.declared.position.Position.{Position}
 use Rattle.position.specs.Places.{Lawful, at, at_end, or_start, to_start}
 use Rattle.starts.specs.Starts.{yes, joins}
-use Rattle.position.proofs.Options.{some_same, not_none, row_same, count_of}
+use Rattle.position.proofs.Options.{not_none, row_same, count_of}
 use Rattle.position.proofs.Places.{count_later, there}
 use Rattle.position.proofs.Neighbours.{meets}
 use Rattle.moves.specs.Lines.{line_end_in, end_of, EndsLine}

@@ -1,13 +1,11 @@
 -- The search for the character that holds a unit: run after run, then character after character.
-use Rattle.std.proofs.Common.{◌≡◌, ℕ, zero, suc, ◌+◌, ◌-◌, ◌*◌, ◌<◌, ◌≤◌, Bool, true, false, cond, eqb, List, [], ◌∷◌, ◌++◌, length, take, drop, Some, None, Option, sym, refl, ap, ◌∙◌, subst, inl, inr, ⊎_elim, arith, length-append}
+use Rattle.std.proofs.Common.{◌≡◌, ℕ, ◌+◌, ◌-◌, ◌<◌, ◌≤◌, eqb, List, [], ◌∷◌, length, take, drop, Some, None, sym, refl, ap, ◌∙◌, subst, inl, inr, ⊎_elim, arith, length-append}
 use Rattle.std.proofs.lemmas.Bool.{cases_Bool, cases_lt, cond-true, cond-false}
 use Rattle.std.proofs.lemmas.List.{take_all}
 use Rattle.rows.specs.declared.node.NodeId.{NodeId}
-use Rattle.source.specs.Runs.{Run, Document, Sound, SoundRun, Character, Every, count, Listed, count_in, next_in, first_row, characters_in}
-use Rattle.source.specs.Pieces.{Within, Asked}
-use Rattle.position.specs.declared.position.Position.{Position}
-use Rattle.position.specs.Places.{Lawful, offset_in, total_in, offset, total, at, place}
-use Rattle.position.proofs.Options.{some_same, not_none, count_of}
+use Rattle.source.specs.Runs.{Run, Document, Sound, Character, count, count_in, next_in, first_row, characters_in}
+use Rattle.source.specs.Pieces.{Within}
+use Rattle.position.specs.Places.{offset_in, total_in, total, at, place}
 use Rattle.position.proofs.Places.{biases_inside, biases_last, offset_next, offset_inside}
 use Rattle.position.proofs.Neighbours.{offset_add, meets, meets_end}
 use Rattle.position.specs.Places.{characters_of}

@@ -1,9 +1,9 @@
 -- What characters measure: a sum over the characters, and small.
-use Rattle.std.proofs.Common.{◌≡◌, ℕ, zero, suc, ◌+◌, ◌-◌, ◌*◌, ◌<◌, ◌≤◌, Bool, true, false, cond, eqb, List, [], ◌∷◌, ◌++◌, length, take, drop, Some, None, Option, sym, refl, ap, ◌∙◌, subst, inl, inr, ⊎_elim, append_assoc, add-zero, suc-mul, arith, length-append, take-add}
+use Rattle.std.proofs.Common.{◌≡◌, ℕ, zero, suc, ◌+◌, ◌-◌, ◌*◌, ◌<◌, ◌≤◌, true, eqb, List, [], ◌∷◌, ◌++◌, length, take, drop, Some, None, Option, sym, refl, ap, ◌∙◌, subst, ⊎_elim, append_assoc, add-zero, suc-mul, arith, length-append, take-add}
 use Rattle.std.proofs.lemmas.Bool.{cases_Bool, cond_both, cond-true, cond-false}
 use Rattle.unicode_text.specs.Table.{WellFormed}
 use Rattle.unicode_text.specs.Table.WellFormed.{empty}
-use Rattle.unicode_text.specs.Scalars.{IsScalar, Scalars, encode, encodings, Spells, scalars, begins, decode}
+use Rattle.unicode_text.specs.Scalars.{Scalars, encode, encodings, scalars, begins, decode}
 use Rattle.unicode_text.specs.Measures.{total as sum_of, the_bullet, too_long}
 use Rattle.unicode_text.proofs.Encodings.{reads, fits, spelt}
 use Rattle.source.specs.Runs.{Run, Document, Sound, SoundRun, Character, Every, Bulleted, bullet, count, count_in, characters_in}

@@ -1,12 +1,11 @@
 -- A walk by `next` goes through the list: what it has before it is a suffix.
-use Rattle.std.proofs.Common.{◌≡◌, ℕ, suc, ◌+◌, ◌-◌, ◌*◌, ◌<◌, ◌≤◌, Bool, true, false, cond, eqb, List, [], ◌∷◌, ◌++◌, length, Some, None, Option, sym, refl, ap, ◌∙◌, subst, inl, inr, ⊎_elim, arith}
-use Rattle.std.proofs.lemmas.Bool.{eqb-true, eqb-false, eq-eqb, ne_eqb, cases_Bool, cond_both, cond-true, cond-false}
+use Rattle.std.proofs.Common.{◌≡◌, ℕ, ◌<◌, cond, eqb, List, [], ◌∷◌, length, Some, None, sym, refl, ap, ◌∙◌, subst, ⊎_elim, arith}
+use Rattle.std.proofs.lemmas.Bool.{eqb-true, eq-eqb, ne_eqb, cases_Bool, cond_both, cond-true, cond-false}
 use Rattle.rows.specs.declared.node.NodeId.{NodeId}
 use Rattle.source.specs.Runs.{Run, SoundRun, Every, count, row_id, Lacks, Listed, count_in, head_row, next_in, first_row, characters_in, joined_in}
 use Rattle.source.specs.Pieces.{Within}
-use Rattle.position.specs.Places.{offset_in, total_in}
 use Rattle.starts.specs.Starts.{yes, joins}
-use Rattle.position.proofs.Options.{some_same, not_none, row_same, count_of}
+use Rattle.position.proofs.Options.{some_same, not_none, row_same}
 use Rattle.position.proofs.Places.{count_here, count_later}
 
 -- the runs from this row on: what a walk by `next` has before it

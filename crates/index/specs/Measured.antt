@@ -1,14 +1,14 @@
 -- Global indexes: what the text before a place measures, for any number given to each scalar.
-use Rattle.std.specs.Prelude.{◌≡◌, ℕ, ◌+◌, ◌-◌, ◌<◌, ◌≤◌, ◌⊎◌, List, [], ◌∷◌, ◌++◌, length, take, drop, Some, None, Ok, Err, Option, Result}
+use Rattle.std.specs.Prelude.{◌≡◌, ℕ, ◌+◌, ◌-◌, ◌<◌, ◌≤◌, ◌⊎◌, List, length, take, drop, Some, None, Ok, Err, Option, Result}
 use Rattle.unicode_text.specs.Scalars.{scalars}
 use Rattle.unicode_text.specs.Table.{WellFormed}
 use Rattle.unicode_text.specs.Measures.{total as sum_of, too_long}
 use Rattle.rows.specs.declared.refusal.Refusal.{Refusal}
 use Rattle.rows.specs.declared.refusal.Refusal.TheVariants.{Beyond}
-use Rattle.source.specs.Runs.{Run, Document, characters_in}
+use Rattle.source.specs.Runs.{Document, characters_in}
 use Rattle.source.specs.Pieces.{bytes_of, Asked}
 use Rattle.position.specs.declared.position.Position.{Position}
-use Rattle.position.specs.Places.{characters_of, offset, total, place}
+use Rattle.position.specs.Places.{characters_of, total, place}
 
 -- What some characters measure: the sum over the scalars of their bytes.
 abbrev pub measured : (ℕ → ℕ) → List (List ℕ) → ℕ

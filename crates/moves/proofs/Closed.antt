@@ -1,5 +1,5 @@
 -- Line moves made again until a paragraph starts come to the first paragraph start after, or the last before.
-use Rattle.std.proofs.Common.{◌≡◌, ℕ, zero, suc, ◌+◌, ◌-◌, ◌<◌, ◌≤◌, Bool, true, false, cond, not, ◌&&◌, ◌||◌, eqb, ltb, List, [], ◌∷◌, Some, None, Option, sym, refl, ap, ◌∙◌, subst, inl, inr, ⊎_elim, arith}
+use Rattle.std.proofs.Common.{◌≡◌, ℕ, zero, suc, ◌<◌, true, false, not, eqb, List, Some, None, Option, sym, refl, ap, ◌∙◌, ⊎_elim, arith}
 use Rattle.std.proofs.lemmas.Bool.{both_ways, eqb-true, ne_eqb, cases_lt, or_cases, or_parts, or_from, or_right, and_parts, and_cases, and_left, and_right}
 use Rattle.rows.specs.declared.node.NodeId.{NodeId}
 use Rattle.source.specs.Runs.{Run, Document, Sound, count_in, next_in, previous_in}
@@ -10,7 +10,7 @@ use Rattle.position.proofs.Options.{count_of}
 use Rattle.position.proofs.Places.{offset_inside}
 use Rattle.position.proofs.Neighbours.{offset_add, meets_end}
 use Rattle.unit.specs.Marks.{lines, paragraphs}
-use Rattle.moves.specs.Arrivals.{After, Until, Arrives, Retreats}
+use Rattle.moves.specs.Arrivals.{Arrives, Retreats}
 use Rattle.moves.specs.Repeats.{Repeated, LineOn, LineBack, end_or_start}
 use Rattle.moves.proofs.Steps.{place_at, on_lawful, on_row, back_lawful}
 

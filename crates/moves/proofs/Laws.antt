@@ -1,9 +1,9 @@
 -- Why each move leaves one answer.
-use Rattle.std.proofs.Common.{◌≡◌, ℕ, zero, suc, ◌<◌, ◌≤◌, Bool, true, false, sym, refl, ap, ◌∙◌, subst, inl, inr, ⊎_elim, arith}
+use Rattle.std.proofs.Common.{◌≡◌, ℕ, zero, suc, ◌<◌, Bool, sym, ap, ◌∙◌, subst, ⊎_elim, arith}
 use Rattle.std.proofs.lemmas.Bool.{both_ways, cases_lt}
 use Rattle.source.specs.Runs.{Document}
 use Rattle.position.specs.declared.position.Position.{Position}
-use Rattle.position.specs.Places.{Lawful, Answers, offset, offset_in, place, total}
+use Rattle.position.specs.Places.{Lawful, offset, offset_in, place, total}
 use Rattle.starts.specs.Starts.{starts_paragraph, ends_paragraph}
 use Rattle.position.specs.Laws.{Single}
 use Rattle.position.proofs.Laws.{answers_single}

@@ -1,15 +1,15 @@
 -- Along a line: each joined run has the same line end as the next one.
-use Rattle.std.proofs.Common.{◌≡◌, ℕ, suc, ◌+◌, ◌-◌, ◌<◌, ◌≤◌, Bool, true, false, cond, eqb, List, [], ◌∷◌, Some, None, Option, sym, refl, ap, ◌∙◌, subst, inl, inr, ⊎_elim, arith}
-use Rattle.std.proofs.lemmas.Bool.{both_ways, eqb-true, eqb-false, eq-eqb, ne_eqb, cases_Bool, cond_both, cond-true, cond-false}
+use Rattle.std.proofs.Common.{◌≡◌, ℕ, ◌+◌, ◌-◌, ◌<◌, ◌≤◌, true, false, eqb, List, [], ◌∷◌, Some, None, sym, refl, ap, ◌∙◌, subst, ⊎_elim, arith}
+use Rattle.std.proofs.lemmas.Bool.{eqb-true, eqb-false, eq-eqb, ne_eqb, cases_Bool, cond_both, cond-true, cond-false}
 use Rattle.rows.specs.declared.node.NodeId.{NodeId}
 use Rattle.source.specs.Runs.{Run, Document, Sound, count, row_id, Listed, count_in, next_in, joined_in}
 use Rattle.source.specs.Pieces.{Within}
 use Rattle.position.specs.declared.position.Position.{Position}
-use Rattle.position.specs.Places.{Lawful, offset_in, total_in, offset, total, at, size_of, place, to_start}
+use Rattle.position.specs.Places.{Lawful, offset_in, offset, total, at, size_of, place, to_start}
 use Rattle.starts.specs.Starts.{yes, joins}
 use Rattle.position.proofs.Options.{some_same, not_none, row_same, count_of, within_zero}
-use Rattle.position.proofs.Places.{there, count_here, count_later, offset_here, offset_later, offset_inside, root_place, within_place}
-use Rattle.position.proofs.Neighbours.{offset_add, meets}
+use Rattle.position.proofs.Places.{there, count_here, count_later, offset_later, offset_inside, root_place, within_place}
+use Rattle.position.proofs.Neighbours.{meets}
 use Rattle.moves.specs.Lines.{head_line, line_end_in, end_of, EndsLine}
 
 head_here : (x : Run) (xs : List Run) → line_end_in (x ∷ xs) x.row ≡ head_line (x ∷ xs)

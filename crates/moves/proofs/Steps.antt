@@ -1,13 +1,13 @@
 -- Moves along lines go on: why the loops over them end.
-use Rattle.std.proofs.Common.{◌≡◌, ℕ, suc, ◌+◌, ◌-◌, ◌<◌, ◌≤◌, Bool, true, false, cond, not, ◌&&◌, ◌||◌, eqb, ltb, List, [], ◌∷◌, Some, None, Option, sym, refl, ap, ◌∙◌, subst, inl, inr, ⊎_elim, arith}
+use Rattle.std.proofs.Common.{◌≡◌, ℕ, ◌+◌, ◌-◌, ◌<◌, ◌≤◌, true, false, ◌&&◌, eqb, List, [], ◌∷◌, Some, None, Option, sym, refl, ap, ◌∙◌, subst, ⊎_elim, arith}
 use Rattle.std.proofs.lemmas.Bool.{both_ways, eqb-true, eq-eqb, ne_eqb, cases_lt, cond-false, or_cases, or_parts, and_parts, and_from}
 use Rattle.rows.specs.declared.node.NodeId.{NodeId}
 use Rattle.source.specs.Runs.{Run, Document, Sound, row_id, Lacks, Listed, count_in, next_in, previous_in, first_row}
 use Rattle.source.specs.Pieces.{Within}
 use Rattle.position.specs.declared.position.Position.{Position}
-use Rattle.position.specs.Places.{Lawful, offset_in, total_in, offset, total, at, place, at_end, size_of}
+use Rattle.position.specs.Places.{Lawful, offset_in, offset, total, at, place, at_end, size_of}
 use Rattle.starts.specs.Starts.{opens_line, broken, is_none, run_end, starts_line, starts_paragraph, ends_document, ends_line, ends_paragraph, breaks}
-use Rattle.position.proofs.Options.{some_same, count_of}
+use Rattle.position.proofs.Options.{count_of}
 use Rattle.position.proofs.Places.{offset_inside, offset_place, within_place, root_place, first_place, place_full, place_biased}
 use Rattle.position.proofs.Neighbours.{offset_add, meets, meets_end}
 use Rattle.unit.proofs.Walk.{start_run}

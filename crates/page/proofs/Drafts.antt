@@ -1,24 +1,22 @@
 -- A draft's runs, from what the tree answers.
-use Rattle.std.proofs.Common.{◌≡◌, ℕ, zero, suc, ◌+◌, ◌<◌, ◌≤◌, Bool, true, false, cond, ◌||◌, eqb, ◌⊎◌, List, [], ◌∷◌, ◌++◌, reverse, length, get_or, Some, None, Ok, Err, Decides, Option, Result, sym, refl, ap, ◌∙◌, subst, inl, inr, ⊎_elim, append_assoc, arith, eq-eqb}
+use Rattle.std.proofs.Common.{◌≡◌, ℕ, zero, suc, ◌+◌, ◌<◌, Bool, false, cond, ◌||◌, eqb, List, [], ◌∷◌, ◌++◌, reverse, length, Some, None, Decides, Option, sym, refl, ap, ◌∙◌, subst, ⊎_elim, append_assoc, arith, eq-eqb}
 use Rattle.std.proofs.lemmas.Bool.{cases_eq}
 use Rattle.source.specs.Runs.{Run, row_id, asked, head_row, next_in, previous_in, last_row, before_in, characters_in, words_in}
 use Rattle.source.specs.Layers.{each}
 use Rattle.rows.specs.declared.node.NodeId.{NodeId}
 use Rattle.rows.specs.declared.node.Row.{Row}
-use Rattle.rows.specs.declared.refusal.Refusal.{Refusal}
 use Rattle.rows.specs.declared.filters.FilterResult.TheVariants.{Include, ExcludeNode}
 use Rattle.tree.specs.declared.way.Way.TheVariants.{Forward}
 use Rattle.rows.specs.Rows.{row, no_row}
 use Rattle.tree.specs.Walk.{answers, head, Follows, Precedes}
-use Rattle.tree.specs.Order.{Ahead, Before}
+use Rattle.tree.specs.Order.{Before}
 use Rattle.rows.specs.Filters.{text_answer}
-use Rattle.tree.specs.Trees.{rows_of, IsRow, Lists, Included, Walked, ListedOn, Above, NextOn, PreviousOn, LastOn, FirstOn, BeforeOn}
+use Rattle.tree.specs.Trees.{rows_of, Lists, Included, Above}
 use Rattle.tree.proofs.Trees.{well, lists}
 use Rattle.tree.proofs.Compares.{before_ahead}
 use Rattle.tree.proofs.Lists.{passed_under}
-use Rattle.rows.proofs.Tests.{refuse, granted, denied}
 use Rattle.page.specs.declared.draft.Draft.{Draft}
-use Rattle.page.specs.Sheets.{Sheet, sheet_of, run_at, rows_under, runs_under, IsRun, Has}
+use Rattle.page.specs.Sheets.{sheet_of, run_at, rows_under, runs_under, IsRun, Has}
 use Rattle.page.proofs.Links.{asked_in, asked_out, asked_has, head_row_lem, next_in_lem, next_out, prev_in, prev_out, last_in, before_in_lem, before_out, characters_in_lem, characters_out, words_in_lem, words_out, or_zero}
 
 -- A number past the table reads as no row.

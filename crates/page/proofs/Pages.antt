@@ -1,7 +1,7 @@
 -- A page that is not blank is its draft.
-use Rattle.std.proofs.Common.{◌≡◌, ℕ, ◌+◌, ◌-◌, ◌≤◌, Bool, true, false, List, [], ◌∷◌, length, take, drop, Some, None, Option, sym, refl, ap, ◌∙◌, subst, arith}
+use Rattle.std.proofs.Common.{◌≡◌, ℕ, ◌+◌, ◌-◌, ◌≤◌, false, List, [], ◌∷◌, length, take, drop, Some, None, Option, sym, refl, ap, ◌∙◌, subst, arith}
 use Rattle.rows.specs.declared.node.NodeId.{NodeId}
-use Rattle.source.specs.Runs.{Run, Document, count, head_row, first_row, last_row, asked, count_in, characters_in, words_in, length_at}
+use Rattle.source.specs.Runs.{Run, count, head_row, first_row, asked, count_in, characters_in, words_in}
 use Rattle.page.specs.declared.page.Page.{Page}
 use Rattle.tree.specs.declared.tree.Tree.{Tree}
 use Rattle.rows.specs.declared.node.Tables.{Tables}

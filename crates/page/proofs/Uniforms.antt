@@ -1,5 +1,5 @@
 -- Whether the characters under a page's root are all one.
-use Rattle.std.proofs.Common.{◌≡◌, ℕ, zero, suc, ◌-◌, ◌<◌, ◌≤◌, Bool, true, false, List, [], ◌∷◌, ◌++◌, length, get_or, take, drop, Some, None, Option, sym, refl, ap, ◌∙◌, subst, arith}
+use Rattle.std.proofs.Common.{◌≡◌, ℕ, ◌-◌, ◌<◌, ◌≤◌, false, List, [], ◌∷◌, ◌++◌, length, get_or, take, drop, Some, None, Option, sym, refl, ap, ◌∙◌, subst, arith}
 use Rattle.rows.specs.declared.node.NodeId.{NodeId}
 use Rattle.tree.proofs.Lists.{nowhere}
 use Rattle.source.specs.Runs.{Run, count, row_id, head_row, Every, Listed}

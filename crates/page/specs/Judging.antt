@@ -1,17 +1,16 @@
 -- What opening asks of the root and of the runs under it, and what it answers.
-use Rattle.std.specs.Prelude.{◌≡◌, ℕ, ◌<◌, ◌≤◌, Bool, true, false, ◌⊎◌, List, [], ◌∷◌, length, Some, None, Option}
+use Rattle.std.specs.Prelude.{◌≡◌, ℕ, ◌<◌, ◌≤◌, Bool, true, false, ◌⊎◌, List, length, Some, None, Option}
 use Rattle.rows.specs.declared.node.NodeId.{NodeId}
 use Rattle.rows.specs.declared.node.Row.{Row}
-use Rattle.rows.specs.declared.node.Tables.{Tables}
 use Rattle.rows.specs.declared.refusal.Refusal.{Refusal}
 use Rattle.rows.specs.declared.refusal.Refusal.TheVariants.{BadTables, BadRow, BadRoot, BadRun, BadWords, BadLine, AtEnd, AtStart, Misplaced, Beyond, Needed}
 use Rattle.rows.specs.Rows.{row}
-use Rattle.rows.specs.Judge.{tree_of, WellFormed, Refused}
+use Rattle.rows.specs.Judge.{tree_of}
 use Rattle.source.specs.Runs.{Rising, next_in, previous_in}
 use Rattle.page.specs.declared.draft.Question.{Question}
 use Rattle.page.specs.declared.draft.Question.TheVariants.{Characters, Words, Line}
 use Rattle.page.specs.Texts.{Fitting}
-use Rattle.page.specs.Sheets.{Sheet, sheet_in, text_at, lengths_at, words_at, no_link, rows_under, runs_under, IsRun}
+use Rattle.page.specs.Sheets.{Sheet, text_at, lengths_at, words_at, no_link, rows_under, runs_under, IsRun}
 
 -- The root's role is one of 2 to 6, and there is a run under it.
 abbrev pub Rooted : Sheet → Type 0

@@ -1,5 +1,5 @@
 -- Which sources are piled up over a page.
-use Rattle.std.specs.Prelude.{◌≡◌, ℕ, Bool, true, false, List, [], ◌∷◌}
+use Rattle.std.specs.Prelude.{◌≡◌, ℕ, Bool, true, false, List}
 use Rattle.rows.specs.Rows.{row}
 use Rattle.source.specs.declared.layered.Layered.{Layered}
 use Rattle.source.specs.declared.layered.Layer.{Layer}

@@ -1,5 +1,5 @@
 -- What opening answers.
-use Rattle.std.specs.Prelude.{◌≡◌, ℕ, Bool, true, false, ◌⊎◌, Some, None, Option}
+use Rattle.std.specs.Prelude.{◌≡◌, true, false, ◌⊎◌, Some, None, Option}
 use Rattle.rows.specs.declared.node.NodeId.{NodeId}
 use Rattle.rows.specs.declared.node.Tables.{Tables}
 use Rattle.rows.specs.declared.refusal.Refusal.{Refusal}

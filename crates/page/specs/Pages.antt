@@ -1,7 +1,6 @@
 -- What a page means: its sheet's document, or the blank one.
-use Rattle.std.specs.Prelude.{◌≡◌, ℕ, Bool, true, false, List, [], ◌∷◌, Some, None, Option}
+use Rattle.std.specs.Prelude.{Bool, true, false, [], ◌∷◌}
 use Rattle.source.specs.Runs.{Run, Document}
-use Rattle.rows.specs.declared.node.NodeId.{NodeId}
 use Rattle.page.specs.declared.page.Page.{Page}
 use Rattle.page.specs.Sheets.{Sheet, sheet_of, sheet_doc}
 

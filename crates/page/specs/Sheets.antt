@@ -1,6 +1,6 @@
 -- What the tables say under a root: its runs, one for each row that the text filter lists.
 --
-use Rattle.std.specs.Prelude.{◌≡◌, ℕ, ◌<◌, ◌≤◌, Bool, true, false, not, ◌⊎◌, List, [], ◌∷◌, ◌++◌, length, Some, None, Option, ◌==◌}
+use Rattle.std.specs.Prelude.{◌≡◌, ℕ, false, not, List, ◌∷◌, ◌++◌, ◌==◌}
 use Rattle.rows.specs.declared.node.NodeId.{NodeId}
 use Rattle.rows.specs.declared.node.Row.{Row}
 use Rattle.rows.specs.declared.node.Tables.{Tables}

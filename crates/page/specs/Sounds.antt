@@ -1,5 +1,5 @@
 -- A page whose root and runs are in order is a sound source.
-use Rattle.std.specs.Prelude.{◌≡◌, ℕ, zero, suc, ◌+◌, ◌-◌, ◌*◌, ◌<◌, ◌≤◌, Bool, true, false, cond, not, ◌⊎◌, List, [], ◌∷◌, ◌++◌, length, take, drop, Some, None, Option, ◌==◌, refl}
+use Rattle.std.specs.Prelude.{◌≡◌, ℕ, suc, ◌+◌, ◌*◌, ◌<◌, ◌≤◌, Bool, true, false, not, List, [], ◌∷◌, ◌++◌, length, drop, Some, None, Option, ◌==◌, refl}
 use Rattle.std.proofs.Common.{sym, ap, subst, ◌∙◌, append_assoc, inl, inr, ⊎_elim, arith, eq-eqb, lit≤, length-drop, drop-drop}
 use Rattle.std.proofs.Math.Logic.{∥∥₁_elim}
 use mathlib.Core.HLevel.{Unit-prop, Π_prop, ×_prop, ⊥_prop}
@@ -9,25 +9,22 @@ use denote.Struct.Props.{≡_prop}
 use Rattle.std.proofs.lemmas.Bool.{cond-true, cond-false, cases_eq, ne_eqb, false≢true}
 use Rattle.std.proofs.lemmas.List.{length-take-le, get_or-drop}
 use Rattle.unicode_text.specs.Table.{WellFormed}
-use Rattle.unicode_text.specs.Scalars.{begins, Cut, Between}
-use Rattle.unicode_text.specs.States.{passes}
+use Rattle.unicode_text.specs.Scalars.{begins, Cut}
 use Rattle.unicode_text.proofs.Rows.{sound, complete}
 use Rattle.unicode_text.proofs.Cuts.{cut_parts, cut_from_between}
-use Rattle.rows.specs.declared.node.NodeId.{NodeId}
 use Rattle.rows.specs.Rows.{row}
-use Rattle.tree.specs.Order.{Ahead, Apart}
+use Rattle.tree.specs.Order.{Apart}
 use Rattle.rows.specs.Filters.{text_answer}
 use Rattle.tree.specs.Trees.{Lists}
 use Rattle.tree.proofs.Trees.{lists}
-use Rattle.source.specs.Runs.{Run, Document, count, row_id, head_row, next_in, Every, Character, Rising, SoundRun, Lacks, Listed, Bulleted, Sound}
+use Rattle.source.specs.Runs.{Run, count, row_id, head_row, next_in, Every, Character, Rising, SoundRun, Lacks, Listed, Sound}
 use Rattle.source.specs.Layers.{each}
 use Rattle.source.specs.Keeping.{each_length}
 use Rattle.page.specs.declared.draft.Draft.{Draft}
-use Rattle.page.specs.declared.draft.Question.TheVariants.{Characters, Words, Line}
 use Rattle.page.specs.Texts.{cut, total, Ended, Fitting}
-use Rattle.page.specs.Sheets.{Sheet, sheet_of, sheet_doc, text_at, lengths_at, no_link, run_at, rows_under, runs_under, IsRun, Has}
+use Rattle.page.specs.Sheets.{sheet_of, sheet_doc, text_at, lengths_at, no_link, run_at, rows_under, runs_under, IsRun, Has}
 use Rattle.page.specs.declared.page.Page.{Page}
-use Rattle.page.specs.Judging.{Rooted, Linked, LinkedOn, AllFit, InOrder}
+use Rattle.page.specs.Judging.{LinkedOn, InOrder}
 use Rattle.page.specs.Pages.{blank_doc, doc_by, page_doc}
 
 -- A text is cut into as many characters as there are lengths.

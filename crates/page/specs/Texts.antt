@@ -1,6 +1,6 @@
 -- A run's parts of the tables: its text, cut into characters by its lengths, and its word starts.
 --
-use Rattle.std.specs.Prelude.{◌≡◌, ℕ, ◌+◌, ◌<◌, ◌≤◌, Bool, true, false, List, [], ◌∷◌, length, take, drop, ◌==◌}
+use Rattle.std.specs.Prelude.{◌≡◌, ℕ, ◌+◌, ◌<◌, ◌≤◌, Bool, false, List, [], ◌∷◌, length, take, drop, ◌==◌}
 use Rattle.rows.specs.declared.node.Part.{Part}
 use Rattle.unicode_text.specs.Table.{WellFormed}
 use Rattle.unicode_text.specs.Scalars.{Between}

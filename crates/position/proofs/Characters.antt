@@ -1,11 +1,11 @@
 -- One place back, and the places of the document's edges.
-use Rattle.std.proofs.Common.{◌≡◌, ℕ, suc, ◌+◌, ◌-◌, ◌<◌, ◌≤◌, Bool, true, false, cond, eqb, ltb, List, [], ◌∷◌, Some, None, Ok, Err, Option, sym, refl, ap, ◌∙◌, subst, inl, inr, ⊎_elim, arith}
-use Rattle.std.proofs.lemmas.Bool.{eqb-true, eqb-false, eq-eqb, ne_eqb, cases_Bool, le-ltb, cond_both, cond-true, cond-false}
+use Rattle.std.proofs.Common.{◌≡◌, ℕ, ◌+◌, ◌-◌, ◌<◌, ◌≤◌, cond, eqb, ltb, List, [], ◌∷◌, Some, None, Ok, sym, refl, ap, ◌∙◌, subst, arith}
+use Rattle.std.proofs.lemmas.Bool.{eq-eqb, ne_eqb, le-ltb, cond-true, cond-false}
 use Rattle.rows.specs.declared.node.NodeId.{NodeId}
-use Rattle.source.specs.Runs.{Run, Document, Sound, count, row_id, Lacks, Listed, count_in, next_in, previous_in, first_row, last_row}
+use Rattle.source.specs.Runs.{Run, Document, Sound, count, Listed, count_in, next_in, previous_in, last_row}
 use Rattle.source.specs.Pieces.{Within}
 use Rattle.position.specs.declared.position.Position.{Position}
-use Rattle.position.specs.Places.{Lawful, offset_in, total_in, offset, total, at, place, place_in, or_start, or_end, size_of, at_end, to_start, to_end, document_end, Answers, BiasedEnd, PreviousPlace}
+use Rattle.position.specs.Places.{Lawful, offset_in, total_in, offset, total, at, place, place_in, or_start, or_end, size_of, at_end, to_end, document_end, BiasedEnd, PreviousPlace}
 use Rattle.position.proofs.Options.{some_same, not_none, count_of}
 use Rattle.position.proofs.Places.{offset_next, offset_inside, offset_place, within_place, root_place, place_biased, count_here, count_later, there}
 use Rattle.position.proofs.Neighbours.{before, first_of}

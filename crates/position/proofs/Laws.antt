@@ -1,12 +1,12 @@
 -- Why each question has one answer.
-use Rattle.std.proofs.Common.{◌≡◌, ℕ, ◌<◌, ◌≤◌, Bool, ◌⊎◌, Ok, Err, Result, Ordering, Less, Equal, Greater, sym, refl, ap, ◌∙◌, subst, inl, inr, ⊎_elim, arith}
+use Rattle.std.proofs.Common.{◌≡◌, ℕ, Bool, ◌⊎◌, Ok, Err, Result, Ordering, Less, Equal, Greater, sym, refl, ap, ◌∙◌, inl, inr, ⊎_elim, arith}
 use Rattle.rows.specs.declared.refusal.Refusal.{Refusal}
 use Rattle.rows.specs.declared.refusal.Refusal.TheVariants.{BadTables, BadRow, BadRoot, BadRun, BadWords, BadLine, AtEnd, AtStart, Misplaced, Beyond, Needed}
 use Rattle.source.specs.Runs.{Document, Sound}
 use Rattle.position.specs.declared.position.Position.{Position}
-use Rattle.position.specs.Places.{Lawful, offset, total, place, Answers, BiasedStart, BiasedEnd, NoForward, NoBackward, NextPlace, PreviousPlace}
+use Rattle.position.specs.Places.{Lawful, offset, total, Answers, BiasedStart, BiasedEnd, NoForward, NoBackward, NextPlace, PreviousPlace}
 use Rattle.position.specs.Orders.{Compares, Ordered}
-use Rattle.position.specs.Laws.{Single, Singles, Named, Laws}
+use Rattle.position.specs.Laws.{Single, Singles, Laws}
 use Rattle.position.proofs.Places.{root_place, within_place, offset_place, offset_inside, place_biased, first_place}
 use Rattle.position.proofs.Characters.{end_place}
 

@@ -1,8 +1,8 @@
 -- A run and its neighbours: where one ends the next begins.
-use Rattle.std.proofs.Common.{◌≡◌, ℕ, suc, ◌+◌, ◌-◌, ◌<◌, ◌≤◌, Bool, true, false, cond, eqb, ltb, List, [], ◌∷◌, Some, None, Option, sym, refl, ap, ◌∙◌, subst, inl, inr, ⊎_elim, arith}
-use Rattle.std.proofs.lemmas.Bool.{eqb-true, eqb-false, eq-eqb, ne_eqb, cases_Bool, cases_lt, cond_both, cond-true, cond-false}
+use Rattle.std.proofs.Common.{◌≡◌, ℕ, ◌+◌, ◌<◌, ◌≤◌, eqb, List, [], ◌∷◌, Some, None, sym, refl, ap, ◌∙◌, subst, ⊎_elim, arith}
+use Rattle.std.proofs.lemmas.Bool.{eqb-true, cases_Bool, cond_both, cond-true, cond-false}
 use Rattle.rows.specs.declared.node.NodeId.{NodeId}
-use Rattle.source.specs.Runs.{Run, Document, Sound, count, row_id, Lacks, Listed, count_in, head_row, next_in, previous_in, first_row, last_row}
+use Rattle.source.specs.Runs.{Run, count, row_id, Listed, count_in, head_row, next_in, previous_in}
 use Rattle.source.specs.Pieces.{Within}
 use Rattle.position.specs.Places.{offset_in, total_in}
 use Rattle.position.proofs.Options.{some_same, not_none, row_same}

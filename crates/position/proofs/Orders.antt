@@ -1,13 +1,13 @@
 -- The order of the runs, then of the indexes, is the order of places.
-use Rattle.std.proofs.Common.{◌≡◌, ℕ, suc, ◌+◌, ◌-◌, ◌<◌, ◌≤◌, Bool, true, false, cond, eqb, ltb, List, [], ◌∷◌, Some, None, Option, Ordering, Less, Equal, Greater, sym, refl, ap, ◌∙◌, subst, inl, inr, ⊎_elim, arith}
-use Rattle.std.proofs.lemmas.Bool.{both_ways, eqb-true, eqb-false, eq-eqb, ne_eqb, ltb-true, ltb-false, cases_Bool, cond_both, cond-true, cond-false}
+use Rattle.std.proofs.Common.{◌≡◌, ℕ, ◌+◌, ◌-◌, ◌<◌, ◌≤◌, true, false, cond, eqb, ltb, List, [], ◌∷◌, Some, Ordering, Less, Equal, Greater, sym, refl, ap, ◌∙◌, subst, ⊎_elim, arith}
+use Rattle.std.proofs.lemmas.Bool.{both_ways, eqb-true, eqb-false, ne_eqb, ltb-true, ltb-false, cases_Bool, cond_both, cond-true, cond-false}
 use Rattle.source.specs.Runs.{Run, Document, Sound, count, Lacks, Listed, count_in, is_in, before_in}
 use Rattle.source.specs.Pieces.{Within}
 use Rattle.position.specs.declared.position.Position.{Position}
 use Rattle.position.specs.Places.{Lawful, offset_in, total_in, offset, total, at, place, place_in, to_start}
 use Rattle.position.specs.Orders.{numbers, by_runs, Compares, Ordered}
-use Rattle.position.proofs.Options.{some_same, not_none, count_of}
-use Rattle.position.proofs.Places.{there, count_here, count_later, offset_later, offset_inside, offset_place, within_place, root_place, place_biased}
+use Rattle.position.proofs.Options.{some_same, count_of}
+use Rattle.position.proofs.Places.{there, count_here, count_later, offset_later, offset_inside, offset_place, within_place, root_place}
 use Rattle.position.proofs.Neighbours.{offset_add}
 
 -- a run of the list is no run that the list lacks

@@ -1,9 +1,9 @@
 -- Places and positions answer one another.
-use Rattle.std.proofs.Common.{◌≡◌, ℕ, suc, ◌+◌, ◌-◌, ◌<◌, ◌≤◌, Bool, true, false, cond, eqb, ltb, List, [], ◌∷◌, Some, None, Ok, Err, Option, Result, sym, refl, ap, ◌∙◌, subst, inl, inr, ⊎_elim, arith}
+use Rattle.std.proofs.Common.{◌≡◌, ℕ, ◌+◌, ◌-◌, ◌<◌, ◌≤◌, true, cond, eqb, ltb, List, [], ◌∷◌, Some, None, Ok, Err, Result, sym, refl, ap, ◌∙◌, subst, ⊎_elim, arith}
 use Rattle.std.proofs.lemmas.Bool.{eqb-true, eqb-false, eq-eqb, ne_eqb, ltb-true, ltb-false, lt-ltb, le-ltb, cases_Bool, cases_lt, cond_both, cond-true, cond-false}
 use Rattle.rows.specs.declared.node.NodeId.{NodeId}
 use Rattle.rows.specs.declared.refusal.Refusal.{Refusal}
-use Rattle.source.specs.Runs.{Run, Document, Sound, count, row_id, Lacks, Listed, count_in, head_row, next_in, last_row, first_row}
+use Rattle.source.specs.Runs.{Run, Document, Sound, count, row_id, Lacks, Listed, count_in, head_row, next_in, first_row}
 use Rattle.source.specs.Pieces.{Within}
 use Rattle.position.specs.declared.position.Position.{Position}
 use Rattle.position.specs.Places.{Lawful, offset_in, total_in, offset, total, at, place_in, place, or_start, at_end, to_start, Answers, BiasedStart, NextPlace}

@@ -2,7 +2,7 @@
 use Rattle.std.specs.Prelude.{◌≡◌, ℕ, ◌≤◌, Bool, Result}
 use Rattle.std.specs.declared.cmp.Ordering.{Ordering}
 use Rattle.rows.specs.declared.refusal.Refusal.{Refusal}
-use Rattle.source.specs.Runs.{Document, Sound}
+use Rattle.source.specs.Runs.{Document}
 use Rattle.position.specs.declared.position.Position.{Position}
 use Rattle.position.specs.Places.{Lawful, offset, total, place, to_start, document_start, document_end, Answers, BiasedStart, BiasedEnd, NextPlace, PreviousPlace}
 use Rattle.position.specs.Orders.{Compares, Ordered}

@@ -1,13 +1,13 @@
 -- The walk from the start's run to the end's, by places.
-use Rattle.std.proofs.Common.{◌≡◌, ℕ, ◌+◌, ◌-◌, ◌<◌, ◌≤◌, Bool, true, false, cond, eqb, List, [], ◌∷◌, ◌++◌, length, take, drop, Some, None, Ok, Err, Option, Result, sym, refl, ap, ◌∙◌, subst, inl, inr, ⊎_elim, arith, length-append, Bor}
-use Rattle.std.proofs.lemmas.Bool.{both_ways, cases_Bool, cases_lt, cond-true, cond-false, cond_both, eq-eqb, ne_eqb, eqb-true}
+use Rattle.std.proofs.Common.{◌≡◌, ℕ, ◌+◌, ◌<◌, ◌≤◌, true, false, eqb, List, [], ◌∷◌, ◌++◌, length, Some, None, Ok, Err, Result, sym, refl, ap, ◌∙◌, subst, ⊎_elim, arith, length-append, Bor}
+use Rattle.std.proofs.lemmas.Bool.{both_ways, cases_Bool, cond-true, cond-false, cond_both, eq-eqb, ne_eqb, eqb-true}
 use Rattle.rows.specs.declared.node.NodeId.{NodeId}
 use Rattle.rows.specs.declared.refusal.Refusal.{Refusal}
 use Rattle.rows.specs.declared.refusal.Refusal.TheVariants.{BadTables, BadRow, BadRoot, BadRun, BadWords, BadLine, AtEnd, AtStart, Misplaced, Beyond, Needed}
-use Rattle.source.specs.Runs.{Run, Document, Sound, Listed, count, count_in, head_row, next_in, is_in, before_in, characters_in}
-use Rattle.source.specs.Pieces.{Within, Asked, Stripped, NoPiece, Pieces, bytes_of, piece_in}
+use Rattle.source.specs.Runs.{Run, Document, Sound, Listed, count, count_in, head_row, next_in, is_in, before_in}
+use Rattle.source.specs.Pieces.{Within, Asked, NoPiece, Pieces, bytes_of, piece_in}
 use Rattle.position.specs.declared.position.Position.{Position}
-use Rattle.position.specs.Places.{Lawful, offset_in, offset, total, size_of}
+use Rattle.position.specs.Places.{Lawful, offset_in, offset, size_of}
 use Rattle.position.proofs.Options.{some_same, not_none, count_of}
 use Rattle.position.proofs.Places.{offset_inside}
 use Rattle.position.proofs.Neighbours.{offset_add, meets}
@@ -15,8 +15,8 @@ use Rattle.position.proofs.Orders.{before_total, before_ends}
 use Rattle.range.specs.declared.range.Range.{Range}
 use Rattle.range.specs.Ranges.{range}
 use Rattle.range.specs.Texts.{between, text_of, bytes_in}
-use Rattle.range.specs.Walks.{Walked, behind_in, front, Heads, Tails, ahead}
-use Rattle.range.proofs.Characters.{piece_between, between_none, between_split, bytes_append}
+use Rattle.range.specs.Walks.{Walked, behind_in, front, Heads, Tails}
+use Rattle.range.proofs.Characters.{piece_between, between_split, bytes_append}
 
 -- a row with a count is a run of the list
 counted : (xs : List Run) (r i : ℕ) → Within i (count_in xs r) → is_in xs r ≡ true

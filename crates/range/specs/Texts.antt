@@ -1,8 +1,8 @@
 -- The text of a range, and what a call that writes it answers and leaves.
-use Rattle.std.specs.Prelude.{◌≡◌, ℕ, ◌-◌, ◌<◌, ◌≤◌, ◌⊎◌, List, [], ◌∷◌, ◌++◌, length, take, drop, Ok, Err, Result}
+use Rattle.std.specs.Prelude.{◌≡◌, ℕ, ◌-◌, ◌<◌, ◌≤◌, ◌⊎◌, List, ◌++◌, length, take, drop, Ok, Err, Result}
 use Rattle.rows.specs.declared.refusal.Refusal.{Refusal}
 use Rattle.rows.specs.declared.refusal.Refusal.TheVariants.{BadTables, BadRow, BadRoot, BadRun, BadWords, BadLine, AtEnd, AtStart, Misplaced, Beyond, Needed}
-use Rattle.source.specs.Runs.{Run, Document}
+use Rattle.source.specs.Runs.{Document}
 use Rattle.source.specs.Pieces.{bytes_of, Stripped}
 use Rattle.position.specs.Places.{characters_of, offset}
 use Rattle.range.specs.declared.range.Range.{Range}

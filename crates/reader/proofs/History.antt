@@ -1,24 +1,23 @@
 -- Why the laws of a reader hold after any list of calls.
-use Rattle.std.proofs.Common.{◌≡◌, ℕ, zero, suc, ◌+◌, ◌-◌, ◌<◌, ◌≤◌, Bool, true, false, cond, List, [], ◌∷◌, ◌++◌, length, take, drop, Some, None, Ok, Err, Option, Result, sym, refl, ap, ◌∙◌, subst, inl, inr, ⊎_elim, append_assoc, arith}
+use Rattle.std.proofs.Common.{◌≡◌, ℕ, ◌-◌, ◌<◌, ◌≤◌, true, List, [], ◌∷◌, ◌++◌, take, drop, Some, Ok, Err, Result, sym, refl, ap, ◌∙◌, subst, ⊎_elim, append_assoc, arith}
 use Rattle.std.proofs.lemmas.Bool.{cases_lt}
 use Rattle.std.proofs.lemmas.List.{append-nil, take_at}
 use Rattle.rows.specs.declared.refusal.Refusal.{Refusal}
-use Rattle.rows.specs.declared.refusal.Refusal.TheVariants.{AtEnd, AtStart, Misplaced, Needed}
+use Rattle.rows.specs.declared.refusal.Refusal.TheVariants.{AtEnd, AtStart}
 use Rattle.source.specs.Runs.{Document, Sound}
 use Rattle.source.specs.Pieces.{bytes_of}
 use Rattle.position.specs.declared.position.Position.{Position}
 use Rattle.position.specs.Places.{Lawful, offset, place, total}
 use Rattle.position.proofs.Options.{some_same, not_none}
-use Rattle.unit.specs.Stops.{Stops, Forward, Backward}
+use Rattle.unit.specs.Stops.{Stops}
 use Rattle.range.specs.declared.range.Range.{Range}
 use Rattle.range.specs.Ranges.{range}
-use Rattle.range.specs.Texts.{between, bytes_in, Short, Written, Texts}
+use Rattle.range.specs.Texts.{between, bytes_in, Written, Texts}
 use Rattle.range.proofs.Characters.{between_none, between_split, bytes_append}
 use Rattle.range.proofs.Laws.{why_text, text_single}
-use Rattle.reader.specs.Spans.{Span, stops_from, opened, spans}
-use Rattle.reader.specs.Indexes.{index_of}
+use Rattle.reader.specs.Spans.{stops_from, opened, spans}
 use Rattle.reader.specs.Steps.{Call, read_on, read_back, set_start, set_end, Answer, piece, done, refused, NoOn, NoBack, Onto, Back, Step, fresh}
-use Rattle.reader.specs.Laws.{Entry, Valid, final, Orderly, StandsAt, Told, handed, why, OnOrRefused, BackOrRefused, OnBy, BackBy, All, piece_of, onward, backward, read_if, reads, reads_back, Point, Stretch, Reads}
+use Rattle.reader.specs.Laws.{Entry, Valid, final, Orderly, Told, handed, why, OnOrRefused, BackOrRefused, OnBy, BackBy, All, piece_of, onward, backward, read_if, reads, reads_back, Point, Stretch, Reads}
 use Rattle.reader.proofs.Places.{lawful_place, off_place, off_inside}
 use Rattle.reader.proofs.Spans.{from, span, from_end, from_on, from_some, upto, upto_back, upto_some, chain_all}
 use Rattle.reader.proofs.Indexes.{index_more}

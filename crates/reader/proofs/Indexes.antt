@@ -1,5 +1,5 @@
 -- From one place to a later one the global index grows by what stands between.
-use Rattle.std.proofs.Common.{◌≡◌, ℕ, ◌+◌, ◌-◌, ◌≤◌, take, drop, sym, ap, ◌∙◌, arith}
+use Rattle.std.proofs.Common.{◌≡◌, ℕ, ◌+◌, ◌-◌, ◌≤◌, take, drop, ap, ◌∙◌, arith}
 use Rattle.source.specs.Runs.{Document, Sound, Character}
 use Rattle.position.specs.Places.{characters_of}
 use Rattle.range.specs.Texts.{between}

@@ -1,14 +1,14 @@
 -- Why one answer fits each call, and one range after it.
-use Rattle.std.proofs.Common.{◌≡◌, ℕ, ◌+◌, ◌-◌, ◌<◌, ◌≤◌, ◌⊎◌, List, [], ◌∷◌, ◌++◌, length, sym, refl, ap, ◌∙◌, subst, inl, inr, ⊎_elim, arith}
+use Rattle.std.proofs.Common.{◌≡◌, ℕ, ◌⊎◌, List, [], length, sym, refl, ap, ◌∙◌, subst, inl, inr, arith}
 use Rattle.rows.specs.declared.refusal.Refusal.{Refusal}
 use Rattle.rows.specs.declared.refusal.Refusal.TheVariants.{BadTables, BadRow, BadRoot, BadRun, BadWords, BadLine, AtEnd, AtStart, Misplaced, Beyond, Needed}
 use Rattle.source.specs.Runs.{Document}
 use Rattle.position.specs.declared.position.Position.{Position}
 use Rattle.position.specs.Places.{Lawful, offset, place, total}
-use Rattle.unit.specs.Stops.{Stops, Forward, Backward}
+use Rattle.unit.specs.Stops.{Stops}
 use Rattle.unit.proofs.Laws.{forward_single, backward_single}
 use Rattle.range.specs.declared.range.Range.{Range}
-use Rattle.range.specs.Ranges.{range, StartMoved, EndMoved}
+use Rattle.range.specs.Ranges.{range}
 use Rattle.range.specs.Texts.{Short, Written}
 use Rattle.range.proofs.Laws.{start_single, end_single, same_short, not_short, same_written}
 use Rattle.reader.specs.Steps.{Call, read_on, read_back, set_start, set_end, Answer, piece, done, refused, Onto, Back, NoOn, NoBack, Step}

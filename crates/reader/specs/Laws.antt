@@ -2,12 +2,12 @@
 use Rattle.std.specs.Prelude.{◌≡◌, ℕ, ◌+◌, ◌≤◌, ◌↔◌, List, [], ◌∷◌, ◌++◌, length, take, Some, None, Ok, Err, Option, Result}
 use Rattle.rows.specs.declared.refusal.Refusal.{Refusal}
 use Rattle.rows.specs.declared.refusal.Refusal.TheVariants.{AtEnd, AtStart, Needed}
-use Rattle.source.specs.Runs.{Document, Sound}
+use Rattle.source.specs.Runs.{Document}
 use Rattle.source.specs.Pieces.{bytes_of}
 use Rattle.position.specs.Places.{Lawful, offset, total}
 use Rattle.unit.specs.Stops.{Stops}
 use Rattle.range.specs.declared.range.Range.{Range}
-use Rattle.range.specs.Texts.{between, text_of, bytes_in, Short, Written, Texts}
+use Rattle.range.specs.Texts.{between, text_of, Short, Written, Texts}
 use Rattle.reader.specs.Spans.{Span, spans, Chain}
 use Rattle.index.specs.Measured.{measured}
 use Rattle.reader.specs.Indexes.{index_of}

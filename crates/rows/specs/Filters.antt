@@ -1,5 +1,5 @@
 -- The answers of the two filters.
-use Rattle.std.specs.Prelude.{ℕ, Bool, true, false, cond, ◌&&◌, ◌||◌, ◌==◌, nat_le}
+use Rattle.std.specs.Prelude.{ℕ, cond, ◌&&◌, ◌||◌, ◌==◌, nat_le}
 use Rattle.rows.specs.declared.node.Row.{Row}
 use Rattle.rows.specs.declared.filters.FilterResult.{FilterResult}
 use Rattle.rows.specs.declared.filters.FilterResult.TheVariants.{Include, ExcludeNode, ExcludeSubtree}

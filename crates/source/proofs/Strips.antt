@@ -1,12 +1,10 @@
 -- The strip of bullets: its bytes, and which part of it a masked piece is.
-use Rattle.std.proofs.Common.{◌≡◌, ℕ, zero, suc, ◌+◌, ◌-◌, ◌*◌, ◌<◌, ◌≤◌, Bool, true, false, cond, eqb, ◌⊎◌, List, [], ◌∷◌, ◌++◌, length, get_or, take, drop, Some, None, Decides, Option, sym, refl, ap, ◌∙◌, subst, inl, inr, ⊎_elim, arith}
-use Rattle.std.specs.List.{flat_map}
+use Rattle.std.proofs.Common.{◌≡◌, ℕ, zero, suc, ◌+◌, ◌-◌, ◌*◌, ◌<◌, ◌≤◌, true, false, eqb, ◌⊎◌, List, [], ◌∷◌, length, get_or, take, drop, Some, None, Decides, Option, sym, refl, ap, ◌∙◌, subst, inl, inr, ⊎_elim, arith}
 use Rattle.std.proofs.lemmas.List.{drop_more, drop_all}
 use Rattle.std.proofs.lemmas.Bool.{cases_Bool, cond-true, cond-false}
-use Rattle.source.specs.Runs.{Run, Document, count, bullet, Every, SoundRun, Sound, asked, count_in, characters_in, length_at}
+use Rattle.source.specs.Runs.{Run, Document, count, Every, SoundRun, count_in, characters_in, length_at}
 use Rattle.source.specs.Pieces.{bullets, bytes_of, full_strip, piece_in, Within, Asked}
 use Rattle.source.specs.Layers.{each, masked_run, masked_doc}
-use Rattle.source.specs.Keeping.{bullets_length}
 use Rattle.source.proofs.Laws.{masked_count, masked_characters}
 
 -- A strip of n bullets.

@@ -1,7 +1,6 @@
 -- A layer over a sound document is sound.
-use Rattle.std.specs.Prelude.{◌≡◌, ℕ, zero, suc, ◌<◌, ◌≤◌, true, List, [], ◌∷◌, length, refl}
+use Rattle.std.specs.Prelude.{◌≡◌, ℕ, zero, suc, ◌<◌, ◌≤◌, List, [], ◌∷◌, length, refl}
 use Rattle.std.proofs.Common.{sym, ap, subst, ◌∙◌, lit<, lit≤}
-use Rattle.unicode_text.specs.Table.{WellFormed}
 use Rattle.unicode_text.specs.Table.WellFormed.{empty, row4}
 use Rattle.source.specs.declared.layered.Layered.{Layered}
 use Rattle.source.specs.declared.layered.Layer.{Layer}

@@ -1,5 +1,5 @@
 -- What a source of runs means: a root row, whether it is masked, and its runs in document order.
-use Rattle.std.specs.Prelude.{◌≡◌, ℕ, zero, suc, ◌+◌, ◌-◌, ◌<◌, ◌≤◌, Bool, true, false, cond, List, [], ◌∷◌, ◌++◌, length, Some, None, Option, ◌==◌, ◌≢◌, nat_lt}
+use Rattle.std.specs.Prelude.{◌≡◌, ℕ, zero, suc, ◌<◌, ◌≤◌, Bool, true, false, cond, List, [], ◌∷◌, length, Some, None, Option, ◌==◌, ◌≢◌, nat_lt}
 use Rattle.rows.specs.declared.node.NodeId.{NodeId}
 use Rattle.unicode_text.specs.Table.{WellFormed}
 

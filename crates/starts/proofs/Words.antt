@@ -1,5 +1,5 @@
 -- A run's word starts: a number is among them exactly when it is the first that is not below it.
-use Rattle.std.proofs.Common.{◌≡◌, ℕ, suc, ◌+◌, ◌-◌, ◌<◌, ◌≤◌, Bool, true, false, cond, ◌||◌, eqb, ltb, List, [], ◌∷◌, Some, None, Option, sym, refl, ap, ◌∙◌, subst, inl, inr, ⊎_elim, arith}
+use Rattle.std.proofs.Common.{◌≡◌, ℕ, suc, ◌<◌, ◌≤◌, Bool, true, false, ◌||◌, eqb, ltb, List, [], ◌∷◌, Some, None, Option, sym, refl, ap, ◌∙◌, subst, ⊎_elim, arith}
 use Rattle.std.proofs.lemmas.Bool.{both_ways, ltb-true, ltb-false, eq-eqb, ne_eqb, cases_Bool, cases_lt, cond-true, cond-false, or_from, or_left}
 use Rattle.source.specs.Runs.{Run, SoundRun, count, Every, Rising, count_in, words_in, first_from}
 use Rattle.starts.specs.Starts.{among}

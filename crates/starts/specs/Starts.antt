@@ -1,5 +1,5 @@
 -- Where lines, paragraphs and words start and end, judged at a position as it stands.
-use Rattle.std.specs.Prelude.{◌≡◌, ℕ, Bool, true, false, not, ◌&&◌, ◌||◌, List, [], ◌∷◌, Some, None, Option, ◌==◌}
+use Rattle.std.specs.Prelude.{ℕ, Bool, true, false, not, ◌&&◌, ◌||◌, List, [], ◌∷◌, Some, None, Option, ◌==◌}
 use Rattle.rows.specs.declared.node.NodeId.{NodeId}
 use Rattle.source.specs.Runs.{Run, Document, count_in, next_in, previous_in, joined_in, breaks_in, words_in}
 use Rattle.position.specs.declared.position.Position.{Position}

@@ -1,7 +1,7 @@
 -- Index paths compared.
-use Rattle.std.proofs.Common.{◌≡◌, ℕ, zero, suc, ◌+◌, ◌-◌, ◌<◌, ◌≤◌, Bool, true, false, cond, eqb, ltb, ◌⊎◌, List, [], ◌∷◌, ◌++◌, length, get_or, take, drop, Decides, sym, refl, ap, ◌∙◌, subst, inl, inr, ⊎_elim, append_assoc, arith}
+use Rattle.std.proofs.Common.{◌≡◌, ℕ, zero, suc, ◌+◌, ◌<◌, ◌≤◌, Bool, true, false, cond, eqb, ltb, ◌⊎◌, List, [], ◌∷◌, ◌++◌, length, get_or, drop, Decides, sym, refl, ap, ◌∙◌, subst, inl, inr, ⊎_elim, append_assoc, arith}
 use Rattle.std.proofs.lemmas.List.{drop_all, drop_more}
-use Rattle.std.proofs.lemmas.Bool.{cond-true, cond-false, cases_Bool, cases_lt, ltb-true, ltb-false, lt-ltb, le-ltb, eq-eqb, ne_eqb, eqb-true, false≢true, true≢false}
+use Rattle.std.proofs.lemmas.Bool.{cond-true, cond-false, cases_Bool, ltb-true, ltb-false, lt-ltb, le-ltb, eq-eqb, ne_eqb, eqb-true, false≢true}
 use Rattle.rows.specs.declared.node.NodeId.{NodeId}
 use Rattle.rows.specs.declared.node.Row.{Row}
 use Rattle.rows.specs.declared.filters.FilterResult.{FilterResult}
@@ -11,7 +11,7 @@ use Rattle.tree.specs.Subtrees.{Steps, path}
 use Rattle.tree.specs.Walk.{listed, Listed}
 use Rattle.tree.specs.Order.{Less, lessb, Before, Ahead, Apart}
 use Rattle.tree.proofs.Rows.{above}
-use Rattle.tree.proofs.Lists.{split, nowhere, found_in, stands, passed_under}
+use Rattle.tree.proofs.Lists.{split, found_in, stands, passed_under}
 use Rattle.tree.proofs.Numbers.{few_apart}
 use Rattle.tree.proofs.Orders.{in_order}
 

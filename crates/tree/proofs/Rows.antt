@@ -2,10 +2,10 @@
 use Rattle.std.proofs.Common.{◌≡◌, ℕ, zero, suc, ◌+◌, ◌-◌, ◌<◌, ◌≤◌, Bool, true, false, cond, eqb, List, [], ◌∷◌, ◌++◌, map, reverse, length, get_or, take, drop, Some, None, Option, sym, refl, ap, ◌∙◌, subst, ⊎_elim, append_assoc, append-nil, arith}
 use Rattle.std.specs.List.{flat_map}
 use Rattle.std.proofs.lemmas.List.{length-take-le, length-drop, get_or-take, get_or-drop, drop_more, drop_all, nil_from_length, take_more, take_all, reverse-append, take-append-drop}
-use Rattle.std.proofs.lemmas.Bool.{cases_eq, eqb-true, eqb-false, eq-eqb, ne_eqb}
+use Rattle.std.proofs.lemmas.Bool.{cases_eq, eqb-false, eq-eqb, ne_eqb}
 use Rattle.rows.specs.declared.node.Row.{Row}
-use Rattle.rows.specs.Rows.{row, par, index, start, count, no_node, kid, Well}
-use Rattle.tree.specs.Subtrees.{kids, Steps, Under, turned, offspring, side, rest, build, whole}
+use Rattle.rows.specs.Rows.{par, index, start, count, no_node, kid, Well}
+use Rattle.tree.specs.Subtrees.{kids, Steps, Under, turned, offspring, side, rest, build}
 use Rattle.tree.specs.Walk.{Sibling, Child}
 use Rattle.rows.specs.declared.node.NodeId.{NodeId}
 use Rattle.tree.specs.declared.way.Way.{Way}

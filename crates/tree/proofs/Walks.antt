@@ -1,12 +1,12 @@
 -- The turns of a filtered walk.
-use Rattle.std.proofs.Common.{◌≡◌, ℕ, zero, suc, ◌+◌, ◌-◌, ◌<◌, ◌≤◌, List, [], ◌∷◌, ◌++◌, length, Some, None, Option, sym, refl, ap, ◌∙◌, subst, append_assoc, append-nil, arith, length-append}
+use Rattle.std.proofs.Common.{◌≡◌, ℕ, suc, ◌+◌, ◌<◌, List, [], ◌∷◌, ◌++◌, length, Some, None, Option, ap, ◌∙◌, arith, length-append}
 use Rattle.std.specs.List.{flat_map}
 use Rattle.rows.specs.declared.node.Row.{Row}
 use Rattle.rows.specs.declared.node.NodeId.{NodeId}
 use Rattle.rows.specs.declared.filters.FilterResult.{FilterResult}
 use Rattle.rows.specs.declared.filters.FilterResult.TheVariants.{Include, ExcludeNode, ExcludeSubtree}
 use Rattle.rows.specs.Rows.{Well}
-use Rattle.tree.specs.Subtrees.{offspring, side, rest, build, whole, Under}
+use Rattle.tree.specs.Subtrees.{offspring, rest, whole, Under}
 use Rattle.tree.specs.declared.way.Way.{Way}
 use Rattle.tree.specs.Walk.{by, shown, head, ahead, In, Over, Child}
 use Rattle.tree.proofs.Rows.{build_is, into_some, child_under}

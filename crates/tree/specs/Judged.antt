@@ -1,5 +1,5 @@
 -- The tree that judging gives: that of the tables, or the blank one.
-use Rattle.std.specs.Prelude.{◌≡◌, ℕ, false, List, [], ◌∷◌, Some, None, Option}
+use Rattle.std.specs.Prelude.{◌≡◌, false, [], ◌∷◌, Some, None, Option}
 use Rattle.rows.specs.declared.node.NodeId.{NodeId}
 use Rattle.rows.specs.declared.node.Row.{Row}
 use Rattle.rows.specs.declared.node.Tables.{Tables}

@@ -1,5 +1,5 @@
 -- What a filter lists below a base row.
-use Rattle.std.specs.Prelude.{◌≡◌, ℕ, zero, suc, ◌+◌, ◌<◌, ◌≤◌, Bool, true, false, cond, eqb, List, [], ◌∷◌, ◌++◌, reverse, length, Some, None, Option}
+use Rattle.std.specs.Prelude.{◌≡◌, ℕ, zero, suc, ◌<◌, List, [], ◌∷◌, ◌++◌, reverse, length, Some, None, Option}
 use Rattle.std.specs.List.{flat_map}
 use Rattle.rows.specs.declared.node.Row.{Row}
 use Rattle.rows.specs.declared.node.NodeId.{NodeId}
@@ -8,7 +8,7 @@ use Rattle.rows.specs.declared.filters.FilterResult.TheVariants.{Include, Exclud
 use Rattle.rows.specs.Rows.{row, par}
 use Rattle.tree.specs.Subtrees.{offspring, side, rest, build, Under}
 use Rattle.tree.specs.declared.way.Way.{Way}
-use Rattle.tree.specs.declared.way.Way.TheVariants.{Forward, Backward}
+use Rattle.tree.specs.declared.way.Way.TheVariants.{Forward}
 
 -- What an answer lets through: the row, what is below it, or nothing.
 abbrev pub by : FilterResult → List ℕ → List ℕ → List ℕ

@@ -1,11 +1,11 @@
 -- Where a well-formed text may be cut: just at the bytes with which an encoding begins, and at its end.
-use Rattle.std.proofs.Common.{◌≡◌, ℕ, zero, suc, ◌+◌, ◌-◌, ◌*◌, ◌/◌, ◌%◌, ◌<◌, ◌≤◌, Bool, true, false, ◌⊎◌, List, [], ◌∷◌, ◌++◌, length, get_or, take, drop, Decides, sym, refl, ap, ◌∙◌, subst, inl, inr, append_assoc, arith, length-append}
+use Rattle.std.proofs.Common.{◌≡◌, ℕ, zero, suc, ◌+◌, ◌-◌, ◌/◌, ◌<◌, ◌≤◌, Bool, true, false, ◌⊎◌, List, [], ◌∷◌, ◌++◌, length, get_or, take, drop, Decides, sym, refl, ap, ◌∙◌, subst, inl, inr, append_assoc, arith, length-append}
 use Rattle.std.proofs.lemmas.Bool.Decides.{nat_tests}
 use Rattle.std.proofs.lemmas.Bool.{cases_lt, cases_eq, both_ways}
 use Rattle.std.proofs.lemmas.List.{get_or_append_left, get_or-append-add, get_or-append_right, take_at, drop_at}
 use Rattle.unicode_text.specs.Table.{Trail, WellFormed}
-use Rattle.unicode_text.specs.Scalars.{IsScalar, Scalars, encode, encodings, trailing, Spells, begins, scalars, Cut, Between}
-use Rattle.unicode_text.proofs.Encodings.{Size, size, spelt, encodings_fit}
+use Rattle.unicode_text.specs.Scalars.{IsScalar, Scalars, encode, encodings, trailing, begins, scalars, Cut, Between}
+use Rattle.unicode_text.proofs.Encodings.{size, spelt, encodings_fit}
 use Rattle.unicode_text.proofs.Encodings.Size.{one, two, three, four}
 
 -- the first byte of an encoding begins it, the others do not

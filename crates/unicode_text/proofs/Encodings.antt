@@ -1,12 +1,10 @@
 -- A text is well-formed by the table exactly when it is the encodings of scalars, one behind the other.
-use Rattle.std.proofs.Common.{◌≡◌, ℕ, zero, suc, ◌+◌, ◌-◌, ◌*◌, ◌/◌, ◌%◌, ◌<◌, ◌≤◌, Bool, true, false, cond, ltb, ◌⊎◌, List, [], ◌∷◌, ◌++◌, length, get_or, take, drop, sym, refl, ap, ◌∙◌, subst, inl, inr, append_assoc, zero-le, arith}
-use Rattle.std.specs.List.{flat_map}
+use Rattle.std.proofs.Common.{◌≡◌, ℕ, ◌+◌, ◌*◌, ◌/◌, ◌%◌, ◌<◌, ◌≤◌, ◌⊎◌, List, [], ◌∷◌, ◌++◌, sym, refl, ap, ◌∙◌, subst, inl, inr, zero-le, arith}
 use Rattle.std.proofs.lemmas.Bool.Decides.{nat_tests}
-use Rattle.std.proofs.lemmas.Bool.{cases_lt, cond-true, cond-false}
-use Rattle.std.proofs.lemmas.List.{append_cancel_left}
+use Rattle.std.proofs.lemmas.Bool.{cases_lt}
 use Rattle.unicode_text.specs.Table.{In, Trail, WellFormed}
 use Rattle.unicode_text.specs.Table.WellFormed.{empty, row1, row2, row3, row4, row5, row6, row7, row8, row9}
-use Rattle.unicode_text.specs.Scalars.{IsScalar, Scalars, encode, encodings, trailing, Spells, begins, bits, decode, scalars}
+use Rattle.unicode_text.specs.Scalars.{IsScalar, Scalars, encode, encodings, trailing, Spells, decode, scalars}
 
 -- a scalar by the number of its bytes, with its encoding
 pub data Size (c : ℕ) : Type 0 where

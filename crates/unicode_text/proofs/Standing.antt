@@ -1,10 +1,10 @@
 -- Which scalar stands at an offset, from the bytes there.
-use Rattle.std.proofs.Common.{◌≡◌, ℕ, zero, suc, ◌+◌, ◌-◌, ◌*◌, ◌/◌, ◌%◌, ◌<◌, ◌≤◌, ◌⊎◌, List, [], ◌∷◌, ◌++◌, length, get_or, drop, Some, None, Option, sym, refl, ap, ◌∙◌, subst, inl, inr, arith, length-drop, MatchOption}
+use Rattle.std.proofs.Common.{◌≡◌, ℕ, suc, ◌+◌, ◌*◌, ◌/◌, ◌%◌, ◌<◌, ◌≤◌, ◌⊎◌, List, [], ◌∷◌, ◌++◌, length, get_or, drop, Some, None, Option, sym, refl, ap, ◌∙◌, subst, inl, inr, arith, length-drop, MatchOption}
 use Rattle.std.proofs.lemmas.List.{drop_more, drop_all, get_or-drop}
 use Rattle.unicode_text.specs.declared.scalar.Scalar.{Scalar}
-use Rattle.unicode_text.specs.Table.{In, Trail}
+use Rattle.unicode_text.specs.Table.{Trail}
 use Rattle.unicode_text.specs.Scalars.{IsScalar, encode, trailing, scalars, StandsAt}
-use Rattle.unicode_text.proofs.Encodings.{Size, size, reads, Sequence, sequence_one, sequence_two, sequence_three, sequence_four}
+use Rattle.unicode_text.proofs.Encodings.{size, reads, Sequence, sequence_one, sequence_two, sequence_three, sequence_four}
 use Rattle.unicode_text.proofs.Encodings.Size.{one, two, three, four}
 
 -- the bytes at an offset where the encoding of c begins

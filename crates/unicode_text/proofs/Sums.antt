@@ -1,5 +1,5 @@
 -- What is left of a text behind a scalar: its measure, and whether it is well-formed.
-use Rattle.std.proofs.Common.{◌≡◌, ℕ, ◌+◌, ◌<◌, ◌≤◌, List, [], ◌∷◌, ◌++◌, length, drop, Some, None, sym, refl, ap, ◌∙◌, subst, arith, length-append, length-drop}
+use Rattle.std.proofs.Common.{◌≡◌, ℕ, ◌+◌, ◌<◌, ◌≤◌, List, [], ◌∷◌, ◌++◌, length, drop, Some, None, sym, ap, ◌∙◌, subst, arith, length-append, length-drop}
 use Rattle.std.proofs.lemmas.List.{append_cancel_left, drop_all}
 use Rattle.unicode_text.specs.declared.scalar.Scalar.{Scalar}
 use Rattle.unicode_text.specs.Table.{WellFormed}

@@ -3,7 +3,7 @@ use Rattle.std.specs.Prelude.{◌≡◌, ℕ, ◌+◌, ◌-◌, ◌*◌, ◌/◌
 use Rattle.unicode_text.specs.declared.measure.Unmeasured.{Unmeasured}
 use Rattle.unicode_text.specs.declared.measure.Unmeasured.TheVariants.{TooLong, IllFormed}
 use Rattle.unicode_text.specs.Table.{WellFormed, In}
-use Rattle.unicode_text.specs.Scalars.{IsScalar, scalars}
+use Rattle.unicode_text.specs.Scalars.{scalars}
 
 -- The bullet, U+2022.
 abbrev pub the_bullet : ℕ

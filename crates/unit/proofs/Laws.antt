@@ -1,11 +1,11 @@
 -- Why a unit's stops leave each of its moves one answer.
-use Rattle.std.proofs.Common.{◌≡◌, ℕ, ◌<◌, ◌≤◌, Bool, true, false, Ok, Err, Result, sym, refl, ap, ◌∙◌, subst, inl, inr, ⊎_elim, arith}
+use Rattle.std.proofs.Common.{◌≡◌, ℕ, ◌<◌, Ok, Err, Result, sym, ap, ◌∙◌, ⊎_elim, arith}
 use Rattle.std.proofs.lemmas.Bool.{both_ways, cases_lt}
 use Rattle.rows.specs.declared.refusal.Refusal.{Refusal}
 use Rattle.rows.specs.declared.refusal.Refusal.TheVariants.{AtEnd, AtStart}
 use Rattle.source.specs.Runs.{Document}
 use Rattle.position.specs.declared.position.Position.{Position}
-use Rattle.position.specs.Places.{Lawful, offset, place, total}
+use Rattle.position.specs.Places.{offset, place, total}
 use Rattle.position.specs.Laws.{Single}
 use Rattle.position.proofs.Laws.{why_forward, why_backward, same_refusal, no_refusal}
 use Rattle.unit.specs.Stops.{Stops, Forward, Backward}

@@ -1,15 +1,14 @@
 -- One walk for every unit that is given run by run, forward and backward.
-use Rattle.std.proofs.Common.{◌≡◌, ℕ, suc, ◌+◌, ◌-◌, ◌<◌, ◌≤◌, Bool, true, false, cond, ◌||◌, eqb, ltb, List, [], ◌∷◌, Some, None, Option, sym, refl, ap, ◌∙◌, subst, inl, inr, ⊎_elim, arith}
+use Rattle.std.proofs.Common.{◌≡◌, ℕ, ◌+◌, ◌-◌, ◌<◌, ◌≤◌, Bool, true, false, eqb, Some, None, Option, sym, refl, ap, ◌∙◌, subst, ⊎_elim, arith}
 use Rattle.std.proofs.lemmas.Bool.{ne_eqb, cases_lt, or_from, or_right}
 use Rattle.rows.specs.declared.node.NodeId.{NodeId}
-use Rattle.source.specs.Runs.{Run, Document, Sound, count_in, next_in, previous_in}
+use Rattle.source.specs.Runs.{Document, Sound, count_in, next_in, previous_in}
 use Rattle.source.specs.Pieces.{Within}
 use Rattle.position.specs.declared.position.Position.{Position}
-use Rattle.position.specs.Places.{Lawful, offset_in, total_in, offset, total, at, place}
+use Rattle.position.specs.Places.{Lawful, offset_in, offset, total, at, place}
 use Rattle.position.proofs.Options.{some_same, not_none, count_of}
 use Rattle.position.proofs.Places.{offset_next, offset_inside, offset_place, within_place, root_place, biases_inside, biases_last, place_full}
 use Rattle.position.proofs.Neighbours.{offset_add, meets, meets_end, before, first_of}
-use Rattle.unit.specs.Stops.{Stops, Forward, Backward}
 use Rattle.unit.specs.Moves.{Goes, Returns}
 use Rattle.unit.specs.Marks.{stops_by, marks_of, First, Last}
 

@@ -1,4 +1,4 @@
-use Rattle.std.proofs.Common.{◌≡◌, sym, refl, ap, ◌∙◌, subst}
+use Rattle.std.proofs.Common.{sym, refl, subst}
 use Rattle.position.specs.Places.{at}
 use Rattle.index.specs.Measured.{Holds}
 use Rattle.index.proofs.Walks.{falls, here_of}

@@ -1,4 +1,4 @@
-use Rattle.std.proofs.Common.{◌≡◌, length}
+use Rattle.std.proofs.Common.{length}
 use Rattle.index.proofs.Walks.{suffix}
 use Rattle.index.proofs.Searches.{Seeks}
 use Rattle.index.proofs.global.position_from_global_index.Given as goal

@@ -1,5 +1,5 @@
-use Rattle.std.proofs.Common.{◌≡◌, Some, None, sym, refl, ap, ◌∙◌, subst}
-use Rattle.source.specs.Runs.{count_in, characters_in}
+use Rattle.std.proofs.Common.{◌≡◌, sym, refl, ◌∙◌, subst}
+use Rattle.source.specs.Runs.{characters_in}
 use Rattle.source.specs.Pieces.{Within}
 use Rattle.index.proofs.Sums.{sum_all}
 use Rattle.index.proofs.Walks.{falls, here_of, ahead_here, ahead_next}

@@ -1,4 +1,4 @@
-use Rattle.std.proofs.Common.{◌≡◌, sym, subst}
+use Rattle.std.proofs.Common.{sym, subst}
 use Rattle.position.specs.Places.{at}
 use Rattle.moves.specs.Lines.{EndsLine}
 use Rattle.index.specs.LineIndexes.{Ranges}

@@ -1,4 +1,4 @@
-use Rattle.std.proofs.Common.{◌≡◌, sym, subst}
+use Rattle.std.proofs.Common.{sym, subst}
 use Rattle.index.proofs.Walks.{falls, here_of}
 use Rattle.index.proofs.LineIndexes.{Finding, finding_first, finding_more, finding_none, finding_found}
 use Rattle.index.proofs.line.line_start.Goals as goal

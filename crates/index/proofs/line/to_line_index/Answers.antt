@@ -1,4 +1,4 @@
-use Rattle.std.proofs.Common.{◌≡◌, ◌+◌, ◌<◌, sym, refl, ◌∙◌, subst, arith}
+use Rattle.std.proofs.Common.{◌+◌, ◌<◌, sym, refl, subst, arith}
 use Rattle.index.proofs.Walks.{falls, here_of, ahead_here, ahead_next}
 use Rattle.index.proofs.LineIndexes.{Counts, counts_first, counts_more, counts_end}
 use Rattle.index.proofs.line.to_line_index.Goals as goal

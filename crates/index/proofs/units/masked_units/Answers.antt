@@ -1,4 +1,4 @@
-use Rattle.std.proofs.Common.{◌≡◌, ◌-◌, ◌*◌, ◌<◌, ◌≤◌, sym, ap, ◌∙◌, subst, arith}
+use Rattle.std.proofs.Common.{◌-◌, ◌*◌, ◌<◌, ◌≤◌, arith}
 use Rattle.index.proofs.Sums.{masked_units, count_small, product_small}
 use Rattle.unicode_text.specs.Measures.{the_bullet}
 use Rattle.index.proofs.units.masked_units.Goals as goal

@@ -1,7 +1,6 @@
-use Rattle.std.proofs.Common.{◌≡◌, zero, suc, sym, ◌∙◌}
-use Rattle.starts.specs.Starts.{starts_paragraph, ends_paragraph}
-use Rattle.moves.specs.Lines.{EndsLine}
-use Rattle.moves.specs.Repeats.{Repeats, LineOn, LineBack, end_or_start}
+use Rattle.std.proofs.Common.{zero, suc, sym, ◌∙◌}
+use Rattle.starts.specs.Starts.{starts_paragraph}
+use Rattle.moves.specs.Repeats.{Repeats, LineBack}
 use Rattle.moves.proofs.Closed.{back_closed}
 use Rattle.moves.proofs.Steps.{back_lawful, back_falls}
 use Rattle.moves.proofs.paragraph.backward_to_paragraph_start.Goals as goal

@@ -1,9 +1,7 @@
-use Rattle.std.proofs.Common.{◌-◌}
 use Rattle.position.specs.declared.position.Position.{Position}
-use Rattle.position.specs.Places.{Lawful, offset_in, offset, total}
-use Rattle.starts.specs.Starts.{starts_paragraph, ends_paragraph}
-use Rattle.moves.specs.Lines.{EndsLine}
-use Rattle.moves.specs.Repeats.{Repeats, LineOn, LineBack, end_or_start}
+use Rattle.position.specs.Places.{Lawful, offset}
+use Rattle.starts.specs.Starts.{starts_paragraph}
+use Rattle.moves.specs.Repeats.{Repeats, LineBack}
 use Rattle.moves.proofs.paragraph.backward_to_paragraph_start.Given as goal
 
 abbrev pub invariant-loop-e : goal.invariant-loop-e

@@ -1,7 +1,7 @@
-use Rattle.std.proofs.Common.{◌≡◌, zero, suc, sym, ◌∙◌}
-use Rattle.starts.specs.Starts.{starts_paragraph, ends_paragraph}
+use Rattle.std.proofs.Common.{zero, suc, sym, ◌∙◌}
+use Rattle.starts.specs.Starts.{ends_paragraph}
 use Rattle.moves.specs.Lines.{EndsLine}
-use Rattle.moves.specs.Repeats.{Repeats, LineOn, LineBack, end_or_start}
+use Rattle.moves.specs.Repeats.{Repeats}
 use Rattle.moves.proofs.Steps.{end_lawful, end_falls}
 use Rattle.moves.proofs.paragraph.forward_to_paragraph_end.Goals as goal
 

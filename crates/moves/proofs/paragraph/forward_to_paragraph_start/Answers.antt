@@ -1,7 +1,5 @@
-use Rattle.std.proofs.Common.{◌≡◌, zero, suc, sym, ◌∙◌}
-use Rattle.starts.specs.Starts.{starts_paragraph, ends_paragraph}
-use Rattle.moves.specs.Lines.{EndsLine}
-use Rattle.moves.specs.Repeats.{Repeats, LineOn, LineBack, end_or_start}
+use Rattle.std.proofs.Common.{zero, suc, sym, ◌∙◌}
+use Rattle.moves.specs.Repeats.{Repeats, LineOn, end_or_start}
 use Rattle.moves.proofs.Closed.{on_closed}
 use Rattle.moves.proofs.Steps.{on_lawful, on_falls}
 use Rattle.moves.proofs.paragraph.forward_to_paragraph_start.Goals as goal

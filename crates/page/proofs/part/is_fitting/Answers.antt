@@ -1,6 +1,6 @@
-use Rattle.std.proofs.Common.{◌+◌, ◌*◌, ◌≤◌, true, length, get_or, sym, refl, ◌∙◌, arith, rules, eq-eqb}
+use Rattle.std.proofs.Common.{◌+◌, ◌*◌, ◌≤◌, length, get_or, sym, ◌∙◌, arith, rules, eq-eqb}
 use Rattle.std.proofs.lemmas.Bool.{false≢true, eqb-true}
-use Rattle.page.specs.Texts.{Ended, Fitting}
+use Rattle.page.specs.Texts.{Ended}
 use Rattle.page.proofs.Slices.{refuse, ended_more, ended_zero, ended_between, ended_all}
 use Rattle.page.proofs.part.is_fitting.Goals as goal
 

@@ -1,5 +1,5 @@
 use Rattle.std.proofs.Common.{refl}
-use Rattle.position.proofs.Characters.{to_end_inside, to_end_first, to_end_run, to_end_not}
+use Rattle.position.proofs.Characters.{to_end_run, to_end_not}
 use Rattle.position.proofs.bias.biased_to_end.Goals as goal
 
 pub returns-in-Some-character_count : goal.returns-in-Some-character_count

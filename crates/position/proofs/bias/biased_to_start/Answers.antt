@@ -1,4 +1,4 @@
-use Rattle.std.proofs.Common.{◌≡◌, ◌∙◌}
+use Rattle.std.proofs.Common.{◌∙◌}
 use Rattle.position.proofs.Places.{biases_inside, biases_next, biases_last}
 use Rattle.position.proofs.bias.biased_to_start.Goals as goal
 

@@ -1,4 +1,4 @@
-use Rattle.std.proofs.Common.{◌≡◌, sym, ap, ◌∙◌}
+use Rattle.std.proofs.Common.{◌≡◌, ap, ◌∙◌}
 use Rattle.source.specs.Runs.{count_in}
 use Rattle.position.specs.Places.{at, document_end, size_of}
 use Rattle.position.proofs.Characters.{end_place}

@@ -1,4 +1,4 @@
-use Rattle.std.proofs.Common.{◌≡◌, ◌+◌, ◌<◌, length, sym, refl, ap, ◌∙◌, arith, length-append}
+use Rattle.std.proofs.Common.{◌+◌, ◌<◌, length, ap, ◌∙◌, arith, length-append}
 use Rattle.source.specs.Pieces.{bytes_of}
 use Rattle.position.specs.Places.{offset}
 use Rattle.range.specs.Texts.{bytes_in, text_of}

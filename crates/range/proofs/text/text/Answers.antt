@@ -1,4 +1,4 @@
-use Rattle.std.proofs.Common.{◌≡◌, ◌≤◌, ◌++◌, length, drop, sym, refl, ap, ◌∙◌, subst, inl, inr}
+use Rattle.std.proofs.Common.{◌≤◌, ◌++◌, length, drop, sym, refl, ap, ◌∙◌, subst, inr}
 use Rattle.source.specs.Pieces.{bytes_of}
 use Rattle.range.proofs.text.text.Goals as goal
 

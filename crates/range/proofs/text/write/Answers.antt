@@ -1,4 +1,4 @@
-use Rattle.std.proofs.Common.{◌≡◌, ℕ, ◌+◌, ◌-◌, ◌<◌, ◌≤◌, List, [], ◌++◌, length, take, drop, sym, refl, ap, ◌∙◌, subst, arith, length-append, length-drop, length-take, rules}
+use Rattle.std.proofs.Common.{◌+◌, ◌-◌, [], length, sym, ◌∙◌, arith, length-drop, length-take, rules}
 use borrow.Rule.Slice.PartMut.{put_mid}
 use Rattle.std.proofs.lemmas.List.{append-nil}
 use Rattle.range.specs.Texts.{bytes_in, text_of}

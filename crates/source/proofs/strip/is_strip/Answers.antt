@@ -1,4 +1,4 @@
-use Rattle.std.proofs.Common.{◌≡◌, ℕ, List, length, sym, ap, ◌∙◌}
+use Rattle.std.proofs.Common.{◌≡◌, length, sym, ap, ◌∙◌}
 use Rattle.source.specs.Pieces.{full_strip}
 use Rattle.source.proofs.Strips.{full, strip_length, rest_more, rest_all, byte_0, byte_1, byte_2, decides_no, decides_yes}
 use Rattle.source.proofs.strip.is_strip.Goals as goal

@@ -1,4 +1,4 @@
-use Rattle.std.proofs.Common.{◌≡◌, ◌+◌, ◌^◌, ◌<◌, ◌≤◌, length, drop, sym, ap, ◌∙◌, arith}
+use Rattle.std.proofs.Common.{◌+◌, drop, ap, ◌∙◌, arith}
 use Rattle.unicode_text.specs.Scalars.{scalars}
 use Rattle.unicode_text.specs.Measures.{total}
 use Rattle.unicode_text.proofs.Sums.{sum_more, sum_all_lem, well_more, well_less, some_bytes, within, no_well, done}

@@ -1,4 +1,4 @@
-use Rattle.std.proofs.Common.{◌≡◌, sym, refl, ap, ◌∙◌, subst, ⊎_elim, arith}
+use Rattle.std.proofs.Common.{◌≡◌, ap, ⊎_elim, arith}
 use Rattle.unit.proofs.Walk.{behind_begin, found_behind, behind_more, behind_falls, behind_none, other_behind, start_behind}
 use Rattle.unit.proofs.marks.back.Goals as goal
 

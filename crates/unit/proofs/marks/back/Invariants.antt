@@ -1,4 +1,3 @@
-use Rattle.std.proofs.Common.{◌≡◌}
 use Rattle.position.specs.Places.{offset_in, offset}
 use Rattle.unit.proofs.Walk.{Behind}
 use Rattle.unit.proofs.marks.back.Given as goal

@@ -1,4 +1,3 @@
-use Rattle.std.proofs.Common.{◌≡◌, sym, refl, ap, ◌∙◌, subst}
 use Rattle.position.specs.Places.{offset}
 use Rattle.unit.proofs.Walk.{ahead_more, ahead_falls, ahead_none, ahead_begin, begin_none, begin_end, found_ahead, end_ahead}
 use Rattle.unit.proofs.marks.onward.Goals as goal

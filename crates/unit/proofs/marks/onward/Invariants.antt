@@ -1,4 +1,4 @@
-use Rattle.std.proofs.Common.{◌≡◌, ◌-◌}
+use Rattle.std.proofs.Common.{◌-◌}
 use Rattle.position.specs.Places.{offset_in, offset, total}
 use Rattle.unit.proofs.Walk.{Ahead}
 use Rattle.unit.proofs.marks.onward.Given as goal

@@ -1,4 +1,4 @@
-use Rattle.std.proofs.Common.{◌≤◌, sym, refl, ap, subst}
+use Rattle.std.proofs.Common.{◌≤◌, subst}
 use Rattle.page.proofs.Slices.{refuse, accept}
 use Rattle.page.proofs.Drafts.{some_runs, no_runs}
 use Rattle.page.proofs.draft.Draft.is_rooted.Goals as goal

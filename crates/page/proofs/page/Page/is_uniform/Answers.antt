@@ -1,4 +1,4 @@
-use Rattle.std.proofs.Common.{◌≡◌, ℕ, ◌-◌, ◌<◌, ◌≤◌, List, length, get_or, take, sym, refl, ap, ◌∙◌, subst, arith, rules}
+use Rattle.std.proofs.Common.{◌≡◌, ℕ, ◌-◌, ◌≤◌, List, length, get_or, take, refl, subst, arith, rules}
 use Rattle.page.specs.Texts.{AllAre}
 use Rattle.page.specs.Sheets.{sheet_of, run_at, IsRun}
 use Rattle.page.proofs.Slices.{refuse, accept}

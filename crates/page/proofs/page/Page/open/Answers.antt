@@ -1,6 +1,6 @@
-use Rattle.std.proofs.Common.{◌≡◌, Some, None, refl, ap, subst, inl, inr}
+use Rattle.std.proofs.Common.{Some, None, refl, ap, subst, inl, inr}
 use Rattle.tree.specs.Judged.{Judged}
-use Rattle.page.specs.Sheets.{sheet_of, sheet_in, sheet_doc}
+use Rattle.page.specs.Sheets.{sheet_of, sheet_doc}
 use Rattle.page.specs.Judging.{InOrder, RunsRefused}
 use Rattle.page.proofs.Pages.{same_sheet}
 use Rattle.page.proofs.Verdicts.{one_opening}

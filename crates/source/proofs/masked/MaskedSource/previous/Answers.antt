@@ -1,4 +1,4 @@
-use Rattle.std.proofs.Common.{sym, ap, ◌∙◌}
+use Rattle.std.proofs.Common.{sym, ◌∙◌}
 use Rattle.source.proofs.Laws.{masked_previous}
 use Rattle.source.proofs.masked.MaskedSource.previous.Goals as goal
 

@@ -1,4 +1,4 @@
-use Rattle.std.proofs.Common.{sym, ap, ◌∙◌}
+use Rattle.std.proofs.Common.{sym, ◌∙◌}
 use Rattle.source.proofs.Laws.{unworded_count}
 use Rattle.source.proofs.unworded.UnwordedSource.character_count.Goals as goal
 

@@ -1,4 +1,3 @@
-use Rattle.std.proofs.Common.{refl}
 use Rattle.source.proofs.Laws.{unworded_pieces}
 use Rattle.source.proofs.unworded.UnwordedSource.piece.Goals as goal
 

@@ -1,9 +1,7 @@
-use Rattle.std.proofs.Common.{◌≡◌, ◌<◌, length, sym, ap, ◌∙◌, subst}
-use Rattle.tree.specs.Subtrees.{whole}
-use Rattle.tree.specs.Walk.{In, ahead, shown, answers, head}
+use Rattle.std.proofs.Common.{sym, ap, ◌∙◌, subst}
+use Rattle.tree.specs.Walk.{In, ahead, answers, head}
 use Rattle.tree.proofs.Trees.{well}
 use Rattle.tree.proofs.Walks.{found, skip, pass, into, falls_over, falls_into, in_child}
-use Rattle.tree.proofs.tree.Tree.seek.Given as given
 use Rattle.tree.proofs.tree.Tree.seek.Goals as goal
 
 pub returns-in-Include : goal.returns-in-Include

@@ -1,4 +1,4 @@
-use Rattle.std.proofs.Common.{◌≡◌, Some, None, sym, refl, ap, ◌∙◌, subst}
+use Rattle.std.proofs.Common.{sym, ◌∙◌, subst}
 use Rattle.source.specs.Runs.{words_in}
 use Rattle.unit.specs.Marks.{Last}
 use Rattle.starts.specs.Starts.{opens_paragraph, among}

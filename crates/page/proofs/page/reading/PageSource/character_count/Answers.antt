@@ -1,8 +1,6 @@
-use Rattle.std.proofs.Common.{not, eqb, Some, sym, ap, ◌∙◌}
 use Rattle.source.specs.Runs.{count}
-use Rattle.page.specs.Texts.{feeds}
 use Rattle.rows.proofs.Tests.{granted, denied}
-use Rattle.page.proofs.Pages.{page_asked, page_asked_out, page_count}
+use Rattle.page.proofs.Pages.{page_asked_out, page_count}
 use Rattle.page.proofs.page.reading.PageSource.character_count.Goals as goal
 
 pub returns-then-not-is_run : goal.returns-then-not-is_run

@@ -1,4 +1,4 @@
-use Rattle.std.proofs.Common.{◌≡◌, ℕ, ◌<◌, ◌≤◌, List, length, get_or, Some, sym, ap, ◌∙◌, subst}
+use Rattle.std.proofs.Common.{ℕ, ◌<◌, ◌≤◌, List, length, get_or, Some, ap, ◌∙◌, subst}
 use Rattle.source.specs.Runs.{length_at}
 use Rattle.rows.proofs.Tests.{granted, denied}
 use Rattle.page.specs.Sheets.{sheet_of, lengths_at, text_at}

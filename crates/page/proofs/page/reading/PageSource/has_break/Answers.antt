@@ -1,8 +1,7 @@
-use Rattle.std.proofs.Common.{not, eqb, Some, sym, ap, ◌∙◌}
-use Rattle.source.specs.Runs.{count}
+use Rattle.std.proofs.Common.{Some, ap, ◌∙◌}
 use Rattle.page.specs.Texts.{feeds}
 use Rattle.rows.proofs.Tests.{granted, denied}
-use Rattle.page.proofs.Pages.{page_asked, page_asked_out, page_count}
+use Rattle.page.proofs.Pages.{page_asked, page_asked_out}
 use Rattle.page.proofs.page.reading.PageSource.has_break.Goals as goal
 
 pub returns-then-not-is_run : goal.returns-then-not-is_run

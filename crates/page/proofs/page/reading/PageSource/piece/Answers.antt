@@ -1,4 +1,4 @@
-use Rattle.std.proofs.Common.{◌+◌, ◌-◌, ◌≤◌, length, take, drop, ◌∙◌, arith, rules}
+use Rattle.std.proofs.Common.{◌-◌, ◌≤◌, length, drop, ◌∙◌, arith, rules}
 use Rattle.page.proofs.Pieces.{take_few, drop_few}
 use Rattle.page.proofs.Pages.{piece_end, piece_few, piece_small, piece_room, piece_bytes, piece_asked, unmasked}
 use Rattle.page.proofs.page.reading.PageSource.piece.Goals as goal

@@ -1,4 +1,4 @@
-use Rattle.std.proofs.Common.{sym, ap, ◌∙◌}
+use Rattle.std.proofs.Common.{ap, ◌∙◌}
 use Rattle.source.specs.Runs.{last_below}
 use Rattle.rows.proofs.Tests.{granted, denied}
 use Rattle.page.proofs.Pages.{page_words, page_words_out}
