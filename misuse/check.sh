@@ -1,13 +1,10 @@
 #!/bin/sh
 # Misuses that the compiler refuses before any proof (types and borrows). A must-fail edit has to
-# reach the prover, so each of these is applied here to a copy of its crate, and must be refused with
-# the error that it names.
+# reach the prover, so each of these is applied here to a copy of the crates, and must be refused with
+# the error that it names. The check looks at types and borrows before it builds a library, so nothing
+# has to be built for this.
 # Each file: 'crate:', 'want:' (the error's name), 'file:', 'old:' (standing once), 'new:'.
-#
-#   misuse/check.sh alone     the edits of crates that use no other crate: nothing has to be built
-#   misuse/check.sh built     the edits of the other crates, over the libraries in target/rlib
 cd "$(dirname "$0")/.." || exit 2
-case ${1:-} in alone | built) part=$1 ;; *) echo "usage: misuse/check.sh alone | built"; exit 2 ;; esac
 work=$(mktemp -d) || exit 2
 trap 'rm -rf "$work"' EXIT
 field() { sed -n "s/^$1: //p" "$2"; }
@@ -21,25 +18,27 @@ for edit in misuse/*.edit; do
         bad=1
         continue
     fi
-    deps=$(sed -n "s/^$crate: *//p" crates.txt)
-    if [ -z "$deps" ]; then kind=alone; else kind=built; fi
-    [ "$kind" = "$part" ] || continue
     tried=$((tried + 1))
-    rm -rf "$work/$crate"
-    cp -R "crates/$crate" "$work/$crate"
+    rm -rf "$work/crates"
+    mkdir "$work/crates"
+    cp crates.txt "$work/crates.txt"
+    for folder in crates/*/; do
+        mkdir "$work/$folder"
+        for part in src specs proofs; do
+            [ ! -d "$folder$part" ] || cp -R "$folder$part" "$work/$folder$part"
+        done
+    done
     if ! OLD=$(field old "$edit") NEW=$(field new "$edit") awk '
         { text = text $0 "\n" }
         END { old = ENVIRON["OLD"]; at = index(text, old)
               if (old == "" || !at || index(substr(text, at + 1), old)) exit 3
               printf "%s%s%s", substr(text, 1, at - 1), ENVIRON["NEW"], substr(text, at + length(old)) }' \
-        "crates/$crate/$file" >"$work/$crate/$file"; then
+        "crates/$crate/$file" >"$work/crates/$crate/$file"; then
         echo "$edit: its old text does not stand there once"
         bad=1
         continue
     fi
-    set --
-    for dep in $deps; do set -- "$@" --extern "$dep=$PWD/target/rlib/$dep.rlib"; done
-    log=$(rt check "$work/$crate" "$@" 2>&1)
+    log=$(cd "$work/crates/$crate" && rt check 2>&1)
     if [ $? -ne 0 ] && printf '%s\n' "$log" | grep -q "error\[$want\]"; then
         echo "$edit: refused ($want)"
     else
