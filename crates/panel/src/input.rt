@@ -1,6 +1,9 @@
 // The lines of standard input, one at a time. A line can be handed back, to be read again.
+ghost use Rattle.std.specs.Prelude.{◌≡◌, IfErr};
+ghost use Rattle.std.specs.IoError.{error_kind};
+
 use std::alloc::Global;
-use std::io::{self, BufRead, BufReader, Stdin};
+use std::io::{self, BufRead, BufReader, ErrorKind, Stdin};
 
 #[derive(Drop)]
 pub struct Input {
@@ -11,7 +14,10 @@ pub struct Input {
 }
 
 impl Input {
-    pub fn new(rt: &HostRuntime) -> io::Result<Input> {
+    // Nothing is read yet; the one error is that there is no memory for the buffer.
+    pub fn new(rt: &HostRuntime) -> io::Result<Input>
+        ensures { IfErr result (λ e. error_kind e ≡ ErrorKind.OutOfMemory) }
+    {
         let heap: Global = rt.alloc();
         Ok(Input {
             reader: BufReader::new(heap, rt.stdin())?,
