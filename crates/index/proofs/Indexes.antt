@@ -1,5 +1,5 @@
 -- The index of a position, summed up run by run.
-use Rattle.std.proofs.Common.{◌≡◌, ℕ, zero, suc, ◌+◌, ◌-◌, ◌*◌, ◌<◌, ◌≤◌, cond, eqb, List, [], ◌∷◌, ◌++◌, length, take, drop, Some, None, sym, refl, ap, ◌∙◌, subst, ⊎_elim, arith}
+use Rattle.std.proofs.Common.{◌≡◌, ℕ, zero, suc, ◌+◌, ◌-◌, ◌*◌, ◌<◌, ◌≤◌, cond, eqb, List, [], ◌∷◌, ◌++◌, length, take, drop, Some, None, Option, sym, refl, ap, ◌∙◌, subst, ⊎_elim, arith}
 use Rattle.std.proofs.lemmas.Bool.{eq-eqb, ne_eqb, cases_Bool, cond-true, cond-false}
 use Rattle.std.proofs.lemmas.List.{take_all}
 use Rattle.rows.specs.declared.node.NodeId.{NodeId}
@@ -72,6 +72,10 @@ module _ (u : ℕ → ℕ) (d : Document) (s : Sound d) (r : ℕ) where
   all_units j n c w =
       let l = count_chars d.runs r j c in
       front_units j n w ∙ ap (sum_all u) (take_all j (characters_in d.runs r) (omega arith))
+
+  -- the same, of what two calls answered
+  pub units_of : (j n : ℕ) (o p : Option ℕ) → o ≡ Some j → p ≡ Some n → o ≡ count_in d.runs r → RunUnits u d r 0 j p → n ≡ sum_all u (characters_in d.runs r)
+  units_of j n o p e f c w = all_units j n (sym e ∙ c) (subst (RunUnits u d r 0 j) f w)
 
   pub asked_all : (j n : ℕ) → Some n ≡ count_in d.runs r → j ≤ n → RunUnits u d r 0 j None → ⊥
   asked_all j n c h w = w (omega arith, subst (Within j) c h)

@@ -1,15 +1,20 @@
 -- What characters measure: a sum over the characters, and small.
-use Rattle.std.proofs.Common.{◌≡◌, ℕ, zero, suc, ◌+◌, ◌-◌, ◌*◌, ◌<◌, ◌≤◌, true, eqb, List, [], ◌∷◌, ◌++◌, length, take, drop, Some, None, Option, sym, refl, ap, ◌∙◌, subst, ⊎_elim, append_assoc, add-zero, suc-mul, arith, length-append, take-add}
+use Rattle.std.proofs.Common.{◌≡◌, ℕ, zero, suc, ◌+◌, ◌-◌, ◌*◌, ◌≤◌, true, eqb, List, [], ◌∷◌, ◌++◌, length, take, drop, Some, sym, refl, ap, ◌∙◌, subst, ⊎_elim, append_assoc, add-zero, suc-mul, arith, length-append, take-add}
 use Rattle.std.proofs.lemmas.Bool.{cases_Bool, cond_both, cond-true, cond-false}
 use Rattle.unicode_text.specs.Table.{WellFormed}
 use Rattle.unicode_text.specs.Table.WellFormed.{empty}
 use Rattle.unicode_text.specs.Scalars.{Scalars, encode, encodings, scalars, begins, decode}
-use Rattle.unicode_text.specs.Measures.{total as sum_of, the_bullet, too_long}
+use Rattle.std.specs.Prelude.{Ok, Err, Result}
+use Rattle.std.specs.Result.{result_ok}
+use Rattle.std.proofs.lemmas.Option.{none-some}
+use Rattle.unicode_text.specs.declared.measure.Unmeasured.{Unmeasured}
+use Rattle.unicode_text.specs.declared.measure.Unmeasured.TheVariants.{TooLong, IllFormed}
+use Rattle.unicode_text.specs.Measures.{total as sum_of, the_bullet, Measures}
 use Rattle.unicode_text.proofs.Encodings.{reads, fits, spelt}
 use Rattle.source.specs.Runs.{Run, Document, Sound, SoundRun, Character, Every, Bulleted, bullet, count, count_in, characters_in}
 use Rattle.source.specs.Pieces.{bytes_of, Within, Asked}
 use Rattle.position.proofs.Options.{some_same, not_none, count_of}
-use Rattle.index.specs.Measured.{measured, RunUnits, MeasuresBytes}
+use Rattle.index.specs.Measured.{measured, RunUnits}
 
 sum_append : (u : ℕ → ℕ) (a b : List ℕ) → sum_of u (a ++ b) ≡ sum_of u a + sum_of u b
 sum_append u [] b = omega arith
@@ -150,9 +155,11 @@ module _ (u : ℕ → ℕ) (d : Document) (row i j : ℕ) (s : Sound d) where
             ∙ sym (measured_all u (take (j - i) (drop i (characters_in d.runs row))) part ∙ bullets_sum u (characters_in d.runs row) i (j - i) (run_bullets d.runs row (s.bulleted e)) (omega arith)),
       )
 
-  pub piece_units : (o : Option ℕ) (b : List ℕ) → Asked d row i j → b ≡ bytes_of (take (j - i) (drop i (characters_in d.runs row))) → MeasuresBytes u b o → RunUnits u d row i j o
-  piece_units (Some n) b a e m = (a, m ∙ ap (λ t. sum_of u (scalars t)) e)
-  piece_units None b a e m =
+  -- the bytes of a run's characters are few enough to be measured, and well-formed
+  pub piece_units : (r : Result ℕ Unmeasured) (b : List ℕ) → Asked d row i j → b ≡ bytes_of (take (j - i) (drop i (characters_in d.runs row))) → Measures u b r → RunUnits u d row i j (result_ok r)
+  piece_units (Ok n) b a e m = (a, m.2 ∙ ap (λ t. sum_of u (scalars t)) e)
+  piece_units (Err IllFormed) b a e m = absurd (m.1 (subst (λ (t : List ℕ). WellFormed t) (sym e) (well_bytes (take (j - i) (drop i (characters_in d.runs row))) part)))
+  piece_units (Err TooLong) b a e m =
       let c = count_of j (count_in d.runs row) a.1 in
       let l = count_chars d.runs row c.0 c.1 in
       let k = count_small d.runs row c.0 s.runs c.1 in
@@ -160,8 +167,7 @@ module _ (u : ℕ → ℕ) (d : Document) (row i j : ℕ) (s : Sound d) where
       let g = length_take_most (j - i) (drop i (characters_in d.runs row)) in
       let t = length_drop_most i (characters_in d.runs row) in
       let x = ap length e in
-      let y : length b < too_long = omega arith in
-      λ z. m y (subst (λ (t : List ℕ). WellFormed t) (sym e) (well_bytes (take (j - i) (drop i (characters_in d.runs row))) part))
+      absurd (omega (arith, m))
     where
       length_take_most : (n : ℕ) (cs : List (List ℕ)) → length (take n cs) ≤ length cs
       length_take_most zero cs = omega arith
@@ -181,3 +187,8 @@ product_small (suc a) b h =
     let x : suc a * b ≡ a * b + b = suc-mul a b in
     let y : suc a * 4 ≡ a * 4 + 4 = suc-mul a 4 in
     omega arith
+
+-- what an answer was, from what is left of it without its refusal
+pub answered : {T E : Type 0} {b : T} (r : Result T E) → Some b ≡ result_ok r → r ≡ Ok b
+answered {b = b} (Ok x) e = let same : x ≡ b = cc in ap Ok same
+answered (Err x) e = absurd (none-some _ (sym e))

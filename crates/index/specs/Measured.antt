@@ -1,8 +1,7 @@
 -- Global indexes: what the text before a place measures, for any number given to each scalar.
 use Rattle.std.specs.Prelude.{◌≡◌, ℕ, ◌+◌, ◌-◌, ◌<◌, ◌≤◌, ◌⊎◌, List, length, take, drop, Some, None, Ok, Err, Option, Result}
 use Rattle.unicode_text.specs.Scalars.{scalars}
-use Rattle.unicode_text.specs.Table.{WellFormed}
-use Rattle.unicode_text.specs.Measures.{total as sum_of, too_long}
+use Rattle.unicode_text.specs.Measures.{total as sum_of}
 use Rattle.rows.specs.declared.refusal.Refusal.{Refusal}
 use Rattle.rows.specs.declared.refusal.Refusal.TheVariants.{Beyond}
 use Rattle.source.specs.Runs.{Document, characters_in}
@@ -17,11 +16,6 @@ measured u cs = sum_of u (scalars (bytes_of cs))
 -- The global index of a place: what the text before it measures.
 abbrev pub index_at : (ℕ → ℕ) → Document → ℕ → ℕ
 index_at u d k = measured u (take k (characters_of d.runs))
-
--- What a well-formed text measures; nothing where it is too long or ill-formed.
-abbrev pub MeasuresBytes : (ℕ → ℕ) → List ℕ → Option ℕ → Type 0
-MeasuresBytes u t (Some n) = n ≡ sum_of u (scalars t)
-MeasuresBytes u t None = length t < too_long → WellFormed t → ⊥
 
 -- What a run's characters from i up to j measure; nothing where they may not be asked for.
 abbrev pub RunUnits : (ℕ → ℕ) → Document → ℕ → ℕ → ℕ → Option ℕ → Type 0

@@ -22,25 +22,18 @@ pub fn to_global_index<S: Source, M: Measure>(s: &S, p: Position) -> Result<usiz
     let _ = biased_to_start(s, p)?;
     let mut row = s.first();
     let mut sum: usize = 0;
-    while row.0 != p.row.0 {
-        let Some(n) = s.character_count(row) else {
-            return Err(Refusal::Misplaced);
-        };
-        let Some(units) = run_units::<S, M>(s, row, 0, n) else {
-            return Err(Refusal::Misplaced);
-        };
-        let Some(next) = s.next(row) else {
-            return Err(Refusal::Misplaced);
-        };
+    while row != p.row {
+        let n = s.character_count(row).ok_or(Refusal::Misplaced)?;
+        let units = run_units::<S, M>(s, row, 0, n).ok_or(Refusal::Misplaced)?;
+        let next = s.next(row).ok_or(Refusal::Misplaced)?;
         sum += units;
         row = next;
     }
-    let Some(own) = run_units::<S, M>(s, row, 0, p.index) else {
-        return Err(Refusal::Misplaced);
-    };
+    let own = run_units::<S, M>(s, row, 0, p.index).ok_or(Refusal::Misplaced)?;
     Ok(sum + own)
 }
 
+// By the name that the original has for it, as the three below that name a measure.
 pub fn to_global_usv_index<S: Source>(s: &S, p: Position) -> Result<usize, Refusal>
     ensures { Answers (Lawful (S.Source.doc s.now) p) (λ n. n ≡ index_at usv_units (S.Source.doc s.now) (offset (S.Source.doc s.now) p)) result }
 {
@@ -59,9 +52,7 @@ fn held_in<S: Source, M: Measure>(s: &S, row: NodeId, n: usize, index: usize) ->
 {
     let mut left = index;
     for at in 0..n {
-        let Some(units) = run_units::<S, M>(s, row, at, at + 1) else {
-            return None;
-        };
+        let units = run_units::<S, M>(s, row, at, at + 1)?;
         if left < units {
             return Some(at);
         }
@@ -82,17 +73,11 @@ pub fn position_from_global_index<S: Source, M: Measure>(
     let mut row = s.first();
     let mut left = index;
     loop {
-        let Some(n) = s.character_count(row) else {
-            return Err(Refusal::Beyond);
-        };
-        let Some(units) = run_units::<S, M>(s, row, 0, n) else {
-            return Err(Refusal::Beyond);
-        };
+        let n = s.character_count(row).ok_or(Refusal::Beyond)?;
+        let units = run_units::<S, M>(s, row, 0, n).ok_or(Refusal::Beyond)?;
         if left < units {
-            return match held_in::<S, M>(s, row, n, left) {
-                Some(index) => Ok(Position { root, row, index }),
-                None => Err(Refusal::Beyond),
-            };
+            let index = held_in::<S, M>(s, row, n, left).ok_or(Refusal::Beyond)?;
+            return Ok(Position { root, row, index });
         }
         let Some(next) = s.next(row) else {
             return if left == units {

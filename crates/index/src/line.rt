@@ -17,7 +17,7 @@ fn line_ends<S: Source>(s: &S, row: NodeId) -> usize
     ensures value { result ≡ (if joins_in (S.Source.doc s.now).runs row.0 then 0 else 1) }
     ensures small { result ≤ 1 }
 {
-    if joins(s, row) { 0 } else { 1 }
+    usize::from(!joins(s, row))
 }
 
 // The number of lines before the line of the position's own run.
@@ -27,10 +27,8 @@ pub fn to_line_index<S: Source>(s: &S, p: Position) -> Result<usize, Refusal>
     let _ = biased_to_start(s, p)?;
     let mut row = s.first();
     let mut lines: usize = 0;
-    while row.0 != p.row.0 {
-        let Some(next) = s.next(row) else {
-            return Err(Refusal::Misplaced);
-        };
+    while row != p.row {
+        let next = s.next(row).ok_or(Refusal::Misplaced)?;
         lines += line_ends(s, row);
         row = next;
     }
@@ -44,9 +42,7 @@ fn line_start<S: Source>(s: &S, index: usize) -> Option<NodeId>
     let mut row = s.first();
     let mut left = index;
     while left > 0 {
-        let Some(next) = s.next(row) else {
-            return None;
-        };
+        let next = s.next(row)?;
         left -= line_ends(s, row);
         row = next;
     }
@@ -60,16 +56,12 @@ pub fn line_range_from_index<S: Source>(
 ) -> Result<(Position, Position), Refusal>
     ensures { LineRange (S.Source.doc s.now) index result }
 {
-    let Some(row) = line_start(s, index) else {
-        return Err(Refusal::Beyond);
-    };
+    let row = line_start(s, index).ok_or(Refusal::Beyond)?;
     let start = Position {
         root: s.root(),
         row,
         index: 0,
     };
-    match forward_to_line_end(s, start) {
-        Ok(end) => Ok((start, end)),
-        Err(_) => Err(Refusal::Beyond),
-    }
+    let end = forward_to_line_end(s, start).map_err(|_| Refusal::Beyond)?;
+    Ok((start, end))
 }

@@ -1,7 +1,7 @@
 // What the characters of one run measure.
 ghost use Rattle.std.specs.Prelude.{◌≡◌, true};
 ghost use Rattle.source.specs.Runs.{characters_in};
-ghost use Rattle.index.specs.Measured.{RunUnits, MeasuresBytes};
+ghost use Rattle.index.specs.Measured.{RunUnits};
 
 use rows::node::NodeId;
 use source::source::Source;
@@ -20,10 +20,8 @@ pub fn run_units<S: Source, M: Measure>(
     if s.is_masked() {
         return masked_units::<S, M>(s, row, first, behind);
     }
-    match s.piece(row, first, behind, &[]) {
-        Ok(bytes) => measured::<M>(bytes),
-        Err(_) => None,
-    }
+    let bytes = s.piece(row, first, behind, &[]).ok()?;
+    measure_text::<M>(bytes).ok()
 }
 
 fn masked_units<S: Source, M: Measure>(
@@ -34,23 +32,9 @@ fn masked_units<S: Source, M: Measure>(
 ) -> Option<usize>
     ensures { (S.Source.doc s.now).masked ≡ true → RunUnits M.Measure.units (S.Source.doc s.now) row.0 first behind result }
 {
-    let Some(n) = s.character_count(row) else {
-        return None;
-    };
-    if behind < first {
+    let n = s.character_count(row)?;
+    if first > behind || behind > n {
         return None;
     }
-    if behind > n {
-        return None;
-    }
-    Some((behind - first) * M::bullet_units())
-}
-
-fn measured<M: Measure>(bytes: &[u8]) -> Option<usize>
-    ensures { MeasuresBytes M.Measure.units bytes.now result }
-{
-    match measure_text::<M>(bytes) {
-        Ok(n) => Some(n),
-        Err(_) => None,
-    }
+    Some((behind - first) * M::BULLET)
 }

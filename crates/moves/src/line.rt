@@ -17,15 +17,7 @@ pub fn forward_to_line_start<S: Source>(s: &S, p: Position) -> Result<Position, 
     ensures { Answers (Lawful (S.Source.doc s.now) p) (Arrives (S.Source.doc s.now) (lines (S.Source.doc s.now)) (offset_in (S.Source.doc s.now).runs p.row.0 0)) result }
 {
     let _ = biased_to_start(s, p)?;
-    stop_after(
-        s,
-        &Line,
-        Position {
-            root: p.root,
-            row: p.row,
-            index: 0,
-        },
-    )
+    stop_after(s, &Line, Position { index: 0, ..p })
 }
 
 // The start of the line that holds the character before, else the document's start.
@@ -42,17 +34,8 @@ pub fn forward_to_line_end<S: Source>(s: &S, p: Position) -> Result<Position, Re
     let q = biased_to_start(s, p)?;
     let mut row = q.row;
     while joins(s, row) {
-        let Some(next) = s.next(row) else {
-            return Err(Refusal::Misplaced);
-        };
-        row = next;
+        row = s.next(row).ok_or(Refusal::Misplaced)?;
     }
-    match s.character_count(row) {
-        Some(index) => Ok(Position {
-            root: q.root,
-            row,
-            index,
-        }),
-        None => Err(Refusal::Misplaced),
-    }
+    let index = s.character_count(row).ok_or(Refusal::Misplaced)?;
+    Ok(Position { row, index, ..q })
 }

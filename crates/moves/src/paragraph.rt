@@ -19,6 +19,9 @@ fn at_end_or_start<S: Source>(s: &S, p: Position) -> bool
     ends_document(s, p) || starts_paragraph(s, p)
 }
 
+// Each of these three loops is as short as a call with closures for its step and its test, which would have
+// to promise besides that the step comes nearer to an end.
+
 // To the next line's start, until a paragraph starts or the document ends.
 pub fn forward_to_paragraph_start<S: Source>(s: &S, p: Position) -> Result<Position, Refusal>
     ensures repeats { Answers (Lawful (S.Source.doc s.now) p) (Repeats (LineOn (S.Source.doc s.now)) (end_or_start (S.Source.doc s.now)) p) result }
@@ -26,14 +29,9 @@ pub fn forward_to_paragraph_start<S: Source>(s: &S, p: Position) -> Result<Posit
 {
     let mut current = p;
     loop {
-        match forward_to_line_start(s, current) {
-            Err(e) => return Err(e),
-            Ok(q) => {
-                if at_end_or_start(s, q) {
-                    return Ok(q);
-                }
-                current = q;
-            }
+        current = forward_to_line_start(s, current)?;
+        if at_end_or_start(s, current) {
+            return Ok(current);
         }
     }
 }
@@ -44,14 +42,9 @@ pub fn forward_to_paragraph_end<S: Source>(s: &S, p: Position) -> Result<Positio
 {
     let mut current = p;
     loop {
-        match forward_to_line_end(s, current) {
-            Err(e) => return Err(e),
-            Ok(q) => {
-                if ends_paragraph(s, q) {
-                    return Ok(q);
-                }
-                current = q;
-            }
+        current = forward_to_line_end(s, current)?;
+        if ends_paragraph(s, current) {
+            return Ok(current);
         }
     }
 }
@@ -63,14 +56,9 @@ pub fn backward_to_paragraph_start<S: Source>(s: &S, p: Position) -> Result<Posi
 {
     let mut current = p;
     loop {
-        match backward_to_line_start(s, current) {
-            Err(e) => return Err(e),
-            Ok(q) => {
-                if starts_paragraph(s, q) {
-                    return Ok(q);
-                }
-                current = q;
-            }
+        current = backward_to_line_start(s, current)?;
+        if starts_paragraph(s, current) {
+            return Ok(current);
         }
     }
 }

@@ -1,8 +1,8 @@
 -- A list of rows and the list of their runs.
-use Rattle.std.proofs.Common.{◌≡◌, ℕ, Bool, true, false, eqb, List, [], ◌∷◌, ◌++◌, reverse, Some, None, Decides, Option, sym, refl, ap, ◌∙◌, ⊎_elim, append_assoc, arith}
+use Rattle.std.proofs.Common.{◌≡◌, ℕ, Bool, true, false, cond, eqb, List, [], ◌∷◌, ◌++◌, reverse, Some, None, Decides, Option, unwrap_or, sym, refl, ap, ◌∙◌, ⊎_elim, append_assoc, arith}
 use Rattle.std.proofs.lemmas.Bool.{cond-true, cond-false, cases_Bool, eqb-true, eqb-false, false≢true}
 use Rattle.std.proofs.lemmas.List.{reverse-append}
-use Rattle.source.specs.Runs.{Run, row_id, asked, head_row, next_in, previous_in, last_row, is_in, before_in, characters_in, words_in}
+use Rattle.source.specs.Runs.{Run, row_id, head_row, next_in, previous_in, last_row, is_in, before_in}
 use Rattle.source.specs.Layers.{each}
 use Rattle.rows.specs.declared.node.NodeId.{NodeId}
 use Rattle.tree.specs.Walk.{head, Follows, Precedes}
@@ -23,11 +23,6 @@ head_last x y ys =
     ∙ head_more (reverse ys) y x
     ∙ ap head (sym e)
 
--- The row, or row 0 where there is none.
-abbrev pub or_zero : Option NodeId → ℕ
-or_zero None = 0
-or_zero (Some r) = r.0
-
 -- A row or none, told apart by a number.
 abbrev sized : Option NodeId → ℕ
 sized None = 0
@@ -40,9 +35,6 @@ head_some (z ∷ l) y = refl
 last_some : (x : ℕ) (xs : List ℕ) → sized (head (reverse (x ∷ xs))) ≡ 1
 last_some x xs = ap (λ l. sized (head l)) (reverse-append (x ∷ []) xs) ∙ head_some (reverse xs) x
 
-some_none : {A : Type 0} (x : A) → ◌≡◌ {A = Option A} (Some x) None → ⊥
-some_none x e = let z : ◌≡◌ {A = ℕ} 0 1 = cc in omega arith
-
 module _ (f : ℕ → Run) (named : (r : ℕ) → (f r).row ≡ r) where
   here : (x r : ℕ) → eqb (f x).row r ≡ true → x ≡ r
   here x r q = sym (named x) ∙ eqb-true (f x).row r q
@@ -51,21 +43,23 @@ module _ (f : ℕ → Run) (named : (r : ℕ) → (f r).row ≡ r) where
   behind x xs r q ([], post, e) = let s : x ≡ r = cc in absurd (eqb-false (f x).row r q (named x ∙ s))
   behind x xs r q (b ∷ pre, post, e) = let t : xs ≡ pre ++ r ∷ post = cc in (pre, post, t)
 
-  pub asked_in : {B : Type 0} (g : Run → B) (xs : List ℕ) (r : ℕ) → Has xs r → Some (g (f r)) ≡ asked g (each f xs) r
-  asked_in g [] r (pre, post, e) = nowhere pre r post e
-  asked_in g (x ∷ xs) r h =
-      ⊎_elim
-      (λ q. ap (λ n. Some (g (f n))) (sym (here x r q)) ∙ sym (cond-true (eqb (f x).row r) (Some (g (f x))) (asked g (each f xs) r) q))
-      (λ q. asked_in g xs r (behind x xs r q h) ∙ sym (cond-false (eqb (f x).row r) (Some (g (f x))) (asked g (each f xs) r) q))
-      (cases_Bool (eqb (f x).row r))
+  -- What is told of the run with a row, one way of telling for all.
+  module _ {B : Type 0} (g : Run → B) (none : B) (told : List Run → ℕ → B) (nil : (r : ℕ) → told [] r ≡ none) (cons : (x : Run) (xs : List Run) (r : ℕ) → told (x ∷ xs) r ≡ cond (eqb x.row r) (g x) (told xs r)) where
+    pub told_in : (xs : List ℕ) (r : ℕ) → Has xs r → g (f r) ≡ told (each f xs) r
+    told_in [] r (pre, post, e) = nowhere pre r post e
+    told_in (x ∷ xs) r h =
+        ⊎_elim
+        (λ q. ap (λ n. g (f n)) (sym (here x r q)) ∙ sym (cond-true (eqb (f x).row r) (g (f x)) (told (each f xs) r) q) ∙ sym (cons (f x) (each f xs) r))
+        (λ q. told_in xs r (behind x xs r q h) ∙ sym (cond-false (eqb (f x).row r) (g (f x)) (told (each f xs) r) q) ∙ sym (cons (f x) (each f xs) r))
+        (cases_Bool (eqb (f x).row r))
 
-  pub asked_out : {B : Type 0} (g : Run → B) (xs : List ℕ) (r : ℕ) → (Has xs r → ⊥) → None ≡ asked g (each f xs) r
-  asked_out g [] r h = refl
-  asked_out g (x ∷ xs) r h =
-      ⊎_elim
-      (λ q. absurd (h ([], xs, ap (λ n. n ∷ xs) (here x r q))))
-      (λ q. asked_out g xs r (λ t. h (x ∷ t.0, t.1, ap (λ l. x ∷ l) t.2)) ∙ sym (cond-false (eqb (f x).row r) (Some (g (f x))) (asked g (each f xs) r) q))
-      (cases_Bool (eqb (f x).row r))
+    pub told_out : (xs : List ℕ) (r : ℕ) → (Has xs r → ⊥) → none ≡ told (each f xs) r
+    told_out [] r h = sym (nil r)
+    told_out (x ∷ xs) r h =
+        ⊎_elim
+        (λ q. absurd (h ([], xs, ap (λ n. n ∷ xs) (here x r q))))
+        (λ q. told_out xs r (λ t. h (x ∷ t.0, t.1, ap (λ l. x ∷ l) t.2)) ∙ sym (cond-false (eqb (f x).row r) (g (f x)) (told (each f xs) r) q) ∙ sym (cons (f x) (each f xs) r))
+        (cases_Bool (eqb (f x).row r))
 
   pub head_row_lem : (xs : List ℕ) → head xs ≡ head_row (each f xs)
   head_row_lem [] = refl
@@ -82,49 +76,6 @@ module _ (f : ℕ → Run) (named : (r : ℕ) → (f r).row ≡ r) where
   -- what follows a row in the list of rows is what follows its run
   pub next_in_lem : (xs : List ℕ) (r : ℕ) (o : Option NodeId) → Follows xs r o → o ≡ next_in (each f xs) r
   next_in_lem xs r o h = next_from xs r o h.stands h.next
-
-  -- What is asked and answered is asked of a row of the list.
-  pub asked_has : {B : Type 0} (g : Run → B) (xs : List ℕ) (r : ℕ) (y : B) → Some y ≡ asked g (each f xs) r → Has xs r × (Some y ≡ Some (g (f r)))
-  asked_has g [] r y e = absurd (some_none y e)
-  asked_has g (x ∷ xs) r y e =
-      ⊎_elim
-      (λ q. (([], xs, ap (λ n. n ∷ xs) (here x r q)), e ∙ cond-true (eqb (f x).row r) (Some (g (f x))) (asked g (each f xs) r) q ∙ ap (λ n. Some (g (f n))) (here x r q)))
-      (λ q.
-      let k = asked_has g xs r y (e ∙ cond-false (eqb (f x).row r) (Some (g (f x))) (asked g (each f xs) r) q) in
-      ((x ∷ k.0.0, k.0.1, ap (λ l. x ∷ l) k.0.2), k.1))
-      (cases_Bool (eqb (f x).row r))
-
-  pub characters_in_lem : (xs : List ℕ) (r : ℕ) → Has xs r → (f r).characters ≡ characters_in (each f xs) r
-  characters_in_lem [] r (pre, post, e) = nowhere pre r post e
-  characters_in_lem (x ∷ xs) r h =
-      ⊎_elim
-      (λ q. ap (λ n. (f n).characters) (sym (here x r q)) ∙ sym (cond-true (eqb (f x).row r) (f x).characters (characters_in (each f xs) r) q))
-      (λ q. characters_in_lem xs r (behind x xs r q h) ∙ sym (cond-false (eqb (f x).row r) (f x).characters (characters_in (each f xs) r) q))
-      (cases_Bool (eqb (f x).row r))
-
-  pub characters_out : (xs : List ℕ) (r : ℕ) → (Has xs r → ⊥) → [] ≡ characters_in (each f xs) r
-  characters_out [] r h = refl
-  characters_out (x ∷ xs) r h =
-      ⊎_elim
-      (λ q. absurd (h ([], xs, ap (λ n. n ∷ xs) (here x r q))))
-      (λ q. characters_out xs r (λ t. h (x ∷ t.0, t.1, ap (λ l. x ∷ l) t.2)) ∙ sym (cond-false (eqb (f x).row r) (f x).characters (characters_in (each f xs) r) q))
-      (cases_Bool (eqb (f x).row r))
-
-  pub words_in_lem : (xs : List ℕ) (r : ℕ) → Has xs r → (f r).words ≡ words_in (each f xs) r
-  words_in_lem [] r (pre, post, e) = nowhere pre r post e
-  words_in_lem (x ∷ xs) r h =
-      ⊎_elim
-      (λ q. ap (λ n. (f n).words) (sym (here x r q)) ∙ sym (cond-true (eqb (f x).row r) (f x).words (words_in (each f xs) r) q))
-      (λ q. words_in_lem xs r (behind x xs r q h) ∙ sym (cond-false (eqb (f x).row r) (f x).words (words_in (each f xs) r) q))
-      (cases_Bool (eqb (f x).row r))
-
-  pub words_out : (xs : List ℕ) (r : ℕ) → (Has xs r → ⊥) → [] ≡ words_in (each f xs) r
-  words_out [] r h = refl
-  words_out (x ∷ xs) r h =
-      ⊎_elim
-      (λ q. absurd (h ([], xs, ap (λ n. n ∷ xs) (here x r q))))
-      (λ q. words_out xs r (λ t. h (x ∷ t.0, t.1, ap (λ l. x ∷ l) t.2)) ∙ sym (cond-false (eqb (f x).row r) (f x).words (words_in (each f xs) r) q))
-      (cases_Bool (eqb (f x).row r))
 
   pub next_out : (xs : List ℕ) (r : ℕ) → (Has xs r → ⊥) → None ≡ next_in (each f xs) r
   next_out [] r h = refl
@@ -167,10 +118,10 @@ module _ (f : ℕ → Run) (named : (r : ℕ) → (f r).row ≡ r) where
       (λ q. prev_from x xs r o (behind x xs r q h.stands) (λ pre post e. h.back (x ∷ pre) post (ap (λ l. x ∷ l) e)))
       (cases_Bool (eqb (f x).row r))
 
-  pub last_in : (xs : List ℕ) → or_zero (head (reverse xs)) ≡ last_row (each f xs)
+  pub last_in : (xs : List ℕ) → (unwrap_or (head (reverse xs)) (row_id 0)).0 ≡ last_row (each f xs)
   last_in [] = refl
   last_in (x ∷ []) = sym (named x)
-  last_in (x ∷ y ∷ ys) = ap or_zero (head_last x y ys) ∙ last_in (y ∷ ys)
+  last_in (x ∷ y ∷ ys) = ap (λ o. (unwrap_or o (row_id 0)).0) (head_last x y ys) ∙ last_in (y ∷ ys)
 
   in_to : (xs : List ℕ) (q : ℕ) → Has xs q → is_in (each f xs) q ≡ true
   in_to [] q (pre, post, e) = nowhere pre q post e

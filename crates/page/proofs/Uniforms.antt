@@ -1,20 +1,24 @@
 -- Whether the characters under a page's root are all one.
-use Rattle.std.proofs.Common.{◌≡◌, ℕ, ◌-◌, ◌<◌, ◌≤◌, false, List, [], ◌∷◌, ◌++◌, length, get_or, take, drop, Some, None, Option, sym, refl, ap, ◌∙◌, subst, arith}
+use Rattle.std.proofs.lemmas.Option.{none-some}
+use Rattle.std.proofs.Common.{Bool, true, not, Decides, ◌≡◌, ℕ, ◌<◌, ◌≤◌, false, List, [], ◌∷◌, ◌++◌, length, get_or, take, sum, Some, None, Option, sym, refl, ap, ◌∙◌, subst, arith}
 use Rattle.rows.specs.declared.node.NodeId.{NodeId}
+use Rattle.std.proofs.lemmas.List.Sums.{sum_by-cons}
 use Rattle.tree.proofs.Lists.{nowhere}
 use Rattle.source.specs.Runs.{Run, count, row_id, head_row, Every, Listed}
 use Rattle.source.specs.Layers.{each}
-use Rattle.page.specs.declared.page.Page.{Page}
-use Rattle.page.specs.Texts.{cut, total, AllAre}
-use Rattle.page.specs.Sheets.{sheet_of, text_at, lengths_at, run_at, rows_under, runs_under, IsRun, Has}
-use Rattle.page.specs.Pages.{page_doc}
+use Rattle.page.specs.declared.draft.Draft.{Draft}
+use Rattle.page.specs.Texts.{cut, AllAre}
+use Rattle.page.specs.Sheets.{Sheet, sheet_of, text_at, lengths_at, run_at, rows_under, runs_under, IsRun, Has}
+use Rattle.std.specs.Option.{is_some}
+use Rattle.std.proofs.lemmas.Bool.{false≢true}
+use Rattle.page.specs.declared.part.Parts.{Parts}
+use Rattle.page.specs.Parts.{PartsAt}
+use Rattle.page.proofs.Slices.{accept, refuse}
+use Rattle.page.proofs.Verdicts.{all_fit, first_fault}
+use Rattle.page.specs.Judging.{InOrder, AllFit, FirstFault, Answered}
 use Rattle.page.specs.Layering.{Uniform}
 use Rattle.page.specs.Sounds.{cut_length, draft_sound, draft_total, every_each}
 use Rattle.page.proofs.Drafts.{has_run, run_has}
-use Rattle.page.proofs.Pages.{whole}
-
-some_none : {A : Type 0} (x : A) → ◌≡◌ {A = Option A} (Some x) None → ⊥
-some_none x e = let z : ◌≡◌ {A = ℕ} 0 1 = cc in omega arith
 
 some_row : (x : NodeId) (y : ℕ) → Some x ≡ Some (row_id y) → x.0 ≡ y
 some_row x y e = let z : x ≡ row_id y = cc in ap (λ n. n.0) z
@@ -23,9 +27,13 @@ none_are : (c ns bs : List ℕ) → length ns ≡ 0 → AllAre c (cut ns bs)
 none_are c [] bs h = tt
 none_are c (n ∷ ns) bs h = absurd (omega arith)
 
-first_is : (c ns bs : List ℕ) → 0 < length ns → AllAre c (cut ns bs) → take (get_or ns 0 0 - 0) (drop 0 bs) ≡ c
+first_is : (c ns bs : List ℕ) → 0 < length ns → AllAre c (cut ns bs) → take (get_or ns 0 0) bs ≡ c
 first_is c [] bs h a = absurd (omega arith)
-first_is c (n ∷ ns) bs h a = let z : n - 0 ≡ n = omega arith in ap (λ m. take m bs) z ∙ a.0
+first_is c (n ∷ ns) bs h a = a.0
+
+sum_first : (ns : List ℕ) → 0 < length ns → get_or ns 0 0 ≤ sum ns
+sum_first [] h = absurd (omega arith)
+sum_first (n ∷ ns) h = let c = sum_by-cons (λ x. x) n ns in omega (arith, c)
 
 module _ (f : ℕ → Run) where
   every_at : (P : Run → Type 0) (xs : List ℕ) (r : ℕ) → Every P (each f xs) → Has xs r → P (f r)
@@ -34,7 +42,7 @@ module _ (f : ℕ → Run) where
   every_at P (x ∷ xs) r h (b ∷ pre, post, e) = let s : xs ≡ pre ++ r ∷ post = cc in every_at P xs r h.1 (pre, post, s)
 
   first_has : (named : (r : ℕ) → (f r).row ≡ r) (xs : List ℕ) (x : NodeId) → Some x ≡ head_row (each f xs) → Has xs x.0
-  first_has named [] x e = absurd (some_none x e)
+  first_has named [] x e = absurd (none-some x (sym e))
   first_has named (y ∷ ys) x e = ([], ys, ap (λ z. z ∷ ys) (sym (some_row x (f y).row e ∙ named y)))
 
   -- A source whose first run lacks characters has no other.
@@ -47,49 +55,50 @@ module _ (f : ℕ → Run) where
       let some = l.0 in
       absurd (omega arith)
 
-module _ (p : Page) (e : p.blank ≡ false) where
-  uniform_page : Uniform (runs_under (sheet_of p.draft)) → Uniform (page_doc p).runs
-  uniform_page = subst (λ d. Uniform d.runs) (whole p e)
-
-  page_uniform : Uniform (page_doc p).runs → Uniform (runs_under (sheet_of p.draft))
-  page_uniform = subst (λ d. Uniform d.runs) (sym (whole p e))
-
-  pub no_first : None ≡ head_row (runs_under (sheet_of p.draft)) → Uniform (page_doc p).runs
-  no_first h = uniform_page (go (rows_under (sheet_of p.draft)) h)
-    where
-      go : (xs : List ℕ) → None ≡ head_row (each (run_at (sheet_of p.draft)) xs) → Uniform (each (run_at (sheet_of p.draft)) xs)
-      go [] h = ([], tt)
-      go (y ∷ ys) h = absurd (some_none (row_id y) (sym h))
-
-  pub empty_first : (x : NodeId) → Some x ≡ head_row (runs_under (sheet_of p.draft)) → length (lengths_at (sheet_of p.draft) x.0) ≡ 0 → Uniform (page_doc p).runs
-  empty_first x h z =
-      let s = sheet_of p.draft in
-      uniform_page ([], only_first (run_at s) (λ r. refl) (rows_under s) x (draft_sound p.draft (p.ordered e)).listed h (cut_length (lengths_at s x.0) (text_at s x.0) ∙ z) (λ r. AllAre [] r.characters) (none_are [] (lengths_at s x.0) (text_at s x.0) z))
-
-  pub all_uniform : (c : List ℕ) → ((k : ℕ) → IsRun (sheet_of p.draft) k → AllAre c (run_at (sheet_of p.draft) k).characters) → Uniform (page_doc p).runs
+module _ (d : Draft) (t : ∥ InOrder (sheet_of d) ∥₁) where
+  all_uniform : (c : List ℕ) → ((k : ℕ) → IsRun (sheet_of d) k → AllAre c (run_at (sheet_of d) k).characters) → Uniform (runs_under (sheet_of d))
   all_uniform c h =
-      let s = sheet_of p.draft in
-      uniform_page (c, every_each (run_at s) (λ r. refl) (λ r. AllAre c r.characters) (rows_under s) [] (rows_under s) refl (λ k t. h k (has_run p.draft k t)))
+      let s = sheet_of d in
+      (c, every_each (run_at s) (λ r. refl) (λ r. AllAre c r.characters) (rows_under s) [] (rows_under s) refl (λ k l. h k (has_run d k l)))
 
-  -- The first character of the first run is the one that all would be.
-  pub not_uniform : (x : NodeId) (c ns bs : List ℕ) (r : ℕ) → Some x ≡ head_row (runs_under (sheet_of p.draft)) → ns ≡ lengths_at (sheet_of p.draft) x.0 → bs ≡ text_at (sheet_of p.draft) x.0 → 0 < length ns → c ≡ take (get_or ns 0 0 - 0) (drop 0 bs) → IsRun (sheet_of p.draft) r → (AllAre c (run_at (sheet_of p.draft) r).characters → ⊥) → Uniform (page_doc p).runs → ⊥
-  not_uniform x c ns bs r h n b l is run other u =
-      let s = sheet_of p.draft in
-      let v = page_uniform u in
-      let P = λ (y : Run). AllAre v.0 y.characters in
-      let a = every_at (run_at s) P (rows_under s) x.0 v.1 (first_has (run_at s) (λ r. refl) (rows_under s) x h) in
-      let a' = subst (λ (k : List ℕ). AllAre v.0 (cut k bs)) (sym n) (subst (λ (t : List ℕ). AllAre v.0 (cut (lengths_at s x.0) t)) (sym b) a) in
-      let same : c ≡ v.0 = is ∙ first_is v.0 ns bs l a' in
-      other (subst (λ (k : List ℕ). AllAre k (run_at s r).characters) (sym same) (every_at (run_at s) P (rows_under s) r v.1 (run_has p.draft r run)))
+  -- The first run, and what the tables have of it.
+  module _ (first : NodeId) (h : Some first ≡ head_row (runs_under (sheet_of d))) (x : Parts) (p : PartsAt (sheet_of d) first.0 x) where
+    pub empty_first : length x.lengths.now ≡ 0 → Uniform (runs_under (sheet_of d))
+    empty_first z =
+        let s = sheet_of d in
+        let e = subst (λ (k : List ℕ). length k ≡ 0) p.lengths z in
+        ([], only_first (run_at s) (λ r. refl) (rows_under s) first (draft_sound d t).listed h (cut_length (lengths_at s first.0) (text_at s first.0) ∙ e) (λ r. AllAre [] r.characters) (none_are [] (lengths_at s first.0) (text_at s first.0) e))
 
-  -- The first character lies in its text.
-  pub first_room : (ns bs : List ℕ) (r : ℕ) → ns ≡ lengths_at (sheet_of p.draft) r → bs ≡ text_at (sheet_of p.draft) r → IsRun (sheet_of p.draft) r → total ns ≤ length bs
-  first_room ns bs r n b l =
-      subst (λ (k : List ℕ). total k ≤ length bs) (sym n) (subst (λ (t : List ℕ). total (lengths_at (sheet_of p.draft) r) ≤ length t) (sym b) (draft_total p.draft (p.ordered e) r l))
+    -- Its first character lies in its text.
+    pub first_fits : 0 < length x.lengths.now → get_or x.lengths.now 0 0 ≤ length x.text.now
+    first_fits n =
+        let s = sheet_of d in
+        let a = sum_first x.lengths.now n in
+        let b = draft_total d t first.0 (has_run d first.0 (first_has (run_at s) (λ r. refl) (rows_under s) first h)) in
+        let l = ap (λ (k : List ℕ). sum k) p.lengths in
+        let m = ap (λ (k : List ℕ). length k) p.text in
+        omega (arith, a, b, l, m)
 
-  pub first_run : (x : NodeId) → Some x ≡ head_row (runs_under (sheet_of p.draft)) → IsRun (sheet_of p.draft) x.0
-  first_run x h = has_run p.draft x.0 (first_has (run_at (sheet_of p.draft)) (λ r. refl) (rows_under (sheet_of p.draft)) x h)
+    -- The first character of the first run is the one that all would be.
+    not_uniform : (c : List ℕ) (r : ℕ) → 0 < length x.lengths.now → c ≡ take (get_or x.lengths.now 0 0) x.text.now → IsRun (sheet_of d) r → (AllAre c (run_at (sheet_of d) r).characters → ⊥) → Uniform (runs_under (sheet_of d)) → ⊥
+    not_uniform c r l is run other u =
+        let s = sheet_of d in
+        let P = λ (y : Run). AllAre u.0 y.characters in
+        let a = every_at (run_at s) P (rows_under s) first.0 u.1 (first_has (run_at s) (λ r. refl) (rows_under s) first h) in
+        let b : AllAre u.0 (cut x.lengths.now x.text.now) = rw (p.lengths, p.text) a in
+        let same : c ≡ u.0 = is ∙ first_is u.0 x.lengths.now x.text.now l b in
+        other (subst (λ (k : List ℕ). AllAre k (run_at s r).characters) (sym same) (every_at (run_at s) P (rows_under s) r u.1 (run_has d r run)))
 
-pub total_first : (ns : List ℕ) → 0 < length ns → get_or ns 0 0 ≤ total ns
-total_first [] h = absurd (omega arith)
-total_first (n ∷ ns) h = omega arith
+    -- So none differs just if no run is found that has another.
+    module _ (c : List ℕ) (l : 0 < length x.lengths.now) (is : c ≡ take (get_or x.lengths.now 0 0) x.text.now) {A : NodeId → Bool → Type 0} where
+      pub uniform : {o : Option NodeId} (b : Bool) → Answered A (sheet_of d) o → ((k : NodeId) (q : Bool) → A k q → Decides q (AllAre c (run_at (sheet_of d) k.0).characters)) → is_some o ≡ not b → Decides b (Uniform (runs_under (sheet_of d)))
+      uniform {o} b a g e = go o b (all_fit P (sheet_of d) a g) (first_fault P (sheet_of d) a g) e
+        where
+          P : Sheet → ℕ → Type 0
+          P s r = AllAre c (run_at s r).characters
+
+          go : (o : Option NodeId) (b : Bool) → (o ≡ None → AllFit P (sheet_of d)) → ((r : NodeId) → o ≡ Some r → FirstFault P (sheet_of d) r.0) → is_some o ≡ not b → Decides b (Uniform (runs_under (sheet_of d)))
+          go None true all fault e = accept (all_uniform c (all refl))
+          go None false all fault e = absurd (false≢true e)
+          go (Some r) true all fault e = absurd (false≢true (sym e))
+          go (Some r) false all fault e = let f = fault r refl in refuse (not_uniform c r.0 l is f.0 f.1)

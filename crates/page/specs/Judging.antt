@@ -1,5 +1,5 @@
 -- What opening asks of the root and of the runs under it, and what it answers.
-use Rattle.std.specs.Prelude.{◌≡◌, ℕ, ◌<◌, ◌≤◌, Bool, true, false, ◌⊎◌, List, length, Some, None, Option}
+use Rattle.std.specs.Prelude.{◌≡◌, ℕ, ◌<◌, ◌≤◌, Bool, true, false, ◌⊎◌, List, length, Some, None, Ok, Err, Option, Result, ⊤}
 use Rattle.rows.specs.declared.node.NodeId.{NodeId}
 use Rattle.rows.specs.declared.node.Row.{Row}
 use Rattle.rows.specs.declared.refusal.Refusal.{Refusal}
@@ -7,8 +7,6 @@ use Rattle.rows.specs.declared.refusal.Refusal.TheVariants.{BadTables, BadRow, B
 use Rattle.rows.specs.Rows.{row}
 use Rattle.rows.specs.Judge.{tree_of}
 use Rattle.source.specs.Runs.{Rising, next_in, previous_in}
-use Rattle.page.specs.declared.draft.Question.{Question}
-use Rattle.page.specs.declared.draft.Question.TheVariants.{Characters, Words, Line}
 use Rattle.page.specs.Texts.{Fitting}
 use Rattle.page.specs.Sheets.{Sheet, text_at, lengths_at, words_at, no_link, rows_under, runs_under, IsRun}
 
@@ -37,52 +35,46 @@ LinkedOn s r = Linked s.rows r (row s.rows r).next (next_in (runs_under s) r) (r
 abbrev pub LinkedBack : Sheet → ℕ → Type 0
 LinkedBack s r = Linked s.rows r (row s.rows r).previous (previous_in (runs_under s) r) (row s.rows (row s.rows r).previous.0).next
 
--- The run is as this question wants it.
-abbrev pub FitAt : Question → Sheet → ℕ → Type 0
-FitAt Characters s r = CharactersAt s r
-FitAt Words s r = WordsAt s r
-FitAt Line s r = LinkedOn s r × LinkedBack s r
+-- The run's line links are as they should be.
+abbrev pub LineAt : Sheet → ℕ → Type 0
+LineAt s r = LinkedOn s r × LinkedBack s r
 
--- Every run under the root is as this question wants it.
-abbrev pub AllFit : Question → Sheet → Type 0
-AllFit q s = (r : ℕ) → IsRun s r → FitAt q s r
+-- Every run under the root is as this wants it.
+abbrev pub AllFit : (Sheet → ℕ → Type 0) → Sheet → Type 0
+AllFit P s = (r : ℕ) → IsRun s r → P s r
 
--- r is the run with the smallest row number that is not as this question wants it.
-abbrev pub FirstFault : Question → Sheet → ℕ → Type 0
-FirstFault q s r = IsRun s r × (FitAt q s r → ⊥) × ((k : ℕ) → k < r → IsRun s k → FitAt q s k)
+-- r is the run with the smallest row number that is not as this wants it.
+abbrev pub FirstFault : (Sheet → ℕ → Type 0) → Sheet → ℕ → Type 0
+FirstFault P s r = IsRun s r × (P s r → ⊥) × ((k : ℕ) → k < r → IsRun s k → P s k)
 
--- Whether the row is a run at fault.
-abbrev pub Faulty : Question → Sheet → ℕ → Bool → Type 0
-Faulty q s r true = IsRun s r × (FitAt q s r → ⊥)
-Faulty q s r false = IsRun s r → FitAt q s r
-
--- The first run at fault, if there is one.
-abbrev pub Faults : Question → Sheet → Option NodeId → Type 0
-Faults q s (Some r) = FirstFault q s r.0
-Faults q s None = AllFit q s
+-- Of what a test answers at the runs: nothing where it refuses none, else the run with the smallest
+-- row number that it refuses.
+pub record Answered (A : NodeId → Bool → Type 0) (s : Sheet) (o : Option NodeId) : Type 0 where
+  pub none : o ≡ None → (k : NodeId) → IsRun s k.0 → A k true
+  pub some : (r : NodeId) → o ≡ Some r → IsRun s r.0 × A r false × ((k : NodeId) → k.0 < r.0 → IsRun s k.0 → A k true)
 
 -- The root and the runs under it are in order.
 pub record InOrder (s : Sheet) : Type 0 where
   pub rooted : Rooted s
-  pub characters : AllFit Characters s
-  pub words : AllFit Words s
-  pub lines : AllFit Line s
+  pub characters : AllFit CharactersAt s
+  pub words : AllFit WordsAt s
+  pub lines : AllFit LineAt s
 
 -- A refusal for the root or for a run: the smallest number first, then the smallest row.
 abbrev pub RunsRefused : Sheet → Refusal → Type 0
 RunsRefused s BadTables = ⊥
 RunsRefused s (BadRow r) = ⊥
 RunsRefused s (BadRoot r) = (r.0 ≡ s.root) × (Rooted s → ⊥)
-RunsRefused s (BadRun r) = Rooted s × FirstFault Characters s r.0
-RunsRefused s (BadWords r) = Rooted s × AllFit Characters s × FirstFault Words s r.0
-RunsRefused s (BadLine r) = Rooted s × AllFit Characters s × AllFit Words s × FirstFault Line s r.0
+RunsRefused s (BadRun r) = Rooted s × FirstFault CharactersAt s r.0
+RunsRefused s (BadWords r) = Rooted s × AllFit CharactersAt s × FirstFault WordsAt s r.0
+RunsRefused s (BadLine r) = Rooted s × AllFit CharactersAt s × AllFit WordsAt s × FirstFault LineAt s r.0
 RunsRefused s AtEnd = ⊥
 RunsRefused s AtStart = ⊥
 RunsRefused s Misplaced = ⊥
 RunsRefused s Beyond = ⊥
 RunsRefused s (Needed n) = ⊥
 
--- Nothing where the root and the runs are in order, else the refusal.
-abbrev pub RunsVerdict : Sheet → Option Refusal → Type 0
-RunsVerdict s None = InOrder s
-RunsVerdict s (Some e) = RunsRefused s e
+-- Nothing to refuse where the root and the runs are in order, else the refusal.
+abbrev pub RunsVerdict : Sheet → Result ⊤ Refusal → Type 0
+RunsVerdict s (Ok x) = InOrder s
+RunsVerdict s (Err e) = RunsRefused s e

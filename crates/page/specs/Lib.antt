@@ -1,5 +1,6 @@
 pub mod Texts
 pub mod Sheets
+pub mod Parts
 pub mod Judging
 pub mod Pages
 pub mod Sounds

@@ -1,9 +1,10 @@
 -- What opening answers.
-use Rattle.std.specs.Prelude.{◌≡◌, true, false, ◌⊎◌, Some, None, Option}
+use Rattle.std.specs.Prelude.{◌≡◌, ◌⊎◌, Some, None, Ok, Err, Option, Result}
 use Rattle.rows.specs.declared.node.NodeId.{NodeId}
 use Rattle.rows.specs.declared.node.Tables.{Tables}
 use Rattle.rows.specs.declared.refusal.Refusal.{Refusal}
 use Rattle.rows.specs.Judge.{WellFormed, Refused}
+use Rattle.page.specs.declared.draft.Draft.{Draft}
 use Rattle.page.specs.declared.page.Page.{Page}
 use Rattle.page.specs.Sheets.{sheet_in, sheet_of, sheet_doc}
 use Rattle.page.specs.Pages.{blank_doc, page_doc}
@@ -20,11 +21,16 @@ Declined t root e = Refused t root.0 e ⊎ (WellFormed t root.0 × RunsRefused (
 
 -- The page is the blank one, and means that.
 abbrev pub Blank : Page → Type 0
-Blank p = (p.blank ≡ true) × (page_doc p ≡ blank_doc)
+Blank p = (p.draft ≡ None) × (page_doc p ≡ blank_doc)
 
 -- The page is the tables', and means what they say.
 abbrev pub PageOf : Tables → NodeId → Page → Type 0
-PageOf t root p = (p.blank ≡ false) × (sheet_of p.draft ≡ sheet_in t root.0) × (page_doc p ≡ sheet_doc (sheet_in t root.0))
+PageOf t root p = ((d : Draft) × (p.draft ≡ Some d) × (sheet_of d ≡ sheet_in t root.0)) × (page_doc p ≡ sheet_doc (sheet_in t root.0))
+
+-- Tables in order give their page, and any others their refusal.
+abbrev pub Opened : Tables → NodeId → Result Page Refusal → Type 0
+Opened t root (Ok p) = Accepted t root × PageOf t root p
+Opened t root (Err e) = Declined t root e
 
 -- Tables in order give their page, and any others their refusal and the blank page.
 abbrev pub Opens : Tables → NodeId → Page → Option Refusal → Type 0

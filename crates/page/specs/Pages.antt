@@ -1,8 +1,9 @@
 -- What a page means: its sheet's document, or the blank one.
-use Rattle.std.specs.Prelude.{Bool, true, false, [], ◌∷◌}
+use Rattle.std.specs.Prelude.{false, [], ◌∷◌, Some, None, Option}
 use Rattle.source.specs.Runs.{Run, Document}
+use Rattle.page.specs.declared.draft.Draft.{Draft}
 use Rattle.page.specs.declared.page.Page.{Page}
-use Rattle.page.specs.Sheets.{Sheet, sheet_of, sheet_doc}
+use Rattle.page.specs.Sheets.{sheet_of, sheet_doc}
 
 -- The one run of the blank page: row 0, without characters.
 abbrev pub blank_run : Run
@@ -12,11 +13,11 @@ blank_run = record { row = 0; characters = []; words = []; joined = false; break
 abbrev pub blank_doc : Document
 blank_doc = record { root = 0; masked = false; runs = blank_run ∷ [] }
 
--- The blank document, or that of a sheet.
-abbrev pub doc_by : Bool → Sheet → Document
-doc_by true s = blank_doc
-doc_by false s = sheet_doc s
+-- The blank document, or that of a draft.
+abbrev pub doc_by : Option Draft → Document
+doc_by None = blank_doc
+doc_by (Some d) = sheet_doc (sheet_of d)
 
 -- What a page means as a source of runs.
 abbrev pub page_doc : Page → Document
-page_doc p = doc_by p.blank (sheet_of p.draft)
+page_doc p = doc_by p.draft

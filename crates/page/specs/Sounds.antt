@@ -1,13 +1,16 @@
 -- A page whose root and runs are in order is a sound source.
-use Rattle.std.specs.Prelude.{◌≡◌, ℕ, suc, ◌+◌, ◌*◌, ◌<◌, ◌≤◌, Bool, true, false, not, List, [], ◌∷◌, ◌++◌, length, drop, Some, None, Option, ◌==◌, refl}
+use Rattle.std.proofs.lemmas.Option.{none-some}
+use Rattle.std.specs.Prelude.{◌≡◌, ℕ, suc, ◌+◌, ◌*◌, ◌<◌, ◌≤◌, false, not, List, [], ◌∷◌, ◌++◌, length, drop, sum, Some, None, Option, ◌==◌, refl}
 use Rattle.std.proofs.Common.{sym, ap, subst, ◌∙◌, append_assoc, inl, inr, ⊎_elim, arith, eq-eqb, lit≤, length-drop, drop-drop}
 use Rattle.std.proofs.Math.Logic.{∥∥₁_elim}
 use mathlib.Core.HLevel.{Unit-prop, Π_prop, ×_prop, ⊥_prop}
 use Rattle.std.proofs.Math.Bridge.{le_prop}
+use Rattle.std.specs.Option.{ForSome}
 use Rattle.std.specs.Coded.{coded_bool}
 use denote.Struct.Props.{≡_prop}
 use Rattle.std.proofs.lemmas.Bool.{cond-true, cond-false, cases_eq, ne_eqb, false≢true}
 use Rattle.std.proofs.lemmas.List.{length-take-le, get_or-drop}
+use Rattle.std.proofs.lemmas.List.Sums.{sum_by-cons}
 use Rattle.unicode_text.specs.Table.{WellFormed}
 use Rattle.unicode_text.specs.Scalars.{begins, Cut}
 use Rattle.unicode_text.proofs.Rows.{sound, complete}
@@ -21,7 +24,7 @@ use Rattle.source.specs.Runs.{Run, count, row_id, head_row, next_in, Every, Char
 use Rattle.source.specs.Layers.{each}
 use Rattle.source.specs.Keeping.{each_length}
 use Rattle.page.specs.declared.draft.Draft.{Draft}
-use Rattle.page.specs.Texts.{cut, total, Ended, Fitting}
+use Rattle.page.specs.Texts.{cut, Ended, Fitting}
 use Rattle.page.specs.Sheets.{sheet_of, sheet_doc, text_at, lengths_at, no_link, run_at, rows_under, runs_under, IsRun, Has}
 use Rattle.page.specs.declared.page.Page.{Page}
 use Rattle.page.specs.Judging.{LinkedOn, InOrder}
@@ -61,12 +64,9 @@ fitting_characters bs ns f = cut_characters bs ns 0 f.whole (cut_start bs f.whol
     cut_start t w = cut_from_between t 0 w ([], _, refl, refl)
 
 -- The characters reach the text's end.
-pub ended_total : (bs ns : List ℕ) (at : ℕ) → Ended bs at ns → at + total ns ≡ length bs
+pub ended_total : (bs ns : List ℕ) (at : ℕ) → Ended bs at ns → at + sum ns ≡ length bs
 ended_total bs [] at e = omega (arith, e)
-ended_total bs (n ∷ ns) at (s, m, b, e) = let h = ended_total bs ns (at + n) e in omega (arith, h)
-
-some_none : {A : Type 0} (x : A) → ◌≡◌ {A = Option A} (Some x) None → ⊥
-some_none x e = let z : ◌≡◌ {A = ℕ} 0 1 = cc in omega arith
+ended_total bs (n ∷ ns) at (s, m, b, e) = let h = ended_total bs ns (at + n) e in let c = sum_by-cons (λ x. x) n ns in omega (arith, h, c)
 
 -- Any list of rows, none twice, and the run that f makes of each.
 module _ (f : ℕ → Run) (named : (r : ℕ) → (f r).row ≡ r) where
@@ -100,7 +100,7 @@ module _ (f : ℕ → Run) (named : (r : ℕ) → (f r).row ≡ r) where
     listed_from pre (x ∷ []) e some = final x (pre, [], e) (next_here pre [] x e)
     listed_from pre (x ∷ y ∷ ys) e some = (
       ⊎_elim
-          (λ z. absurd (some_none (row_id (f y).row) (sym (next_here pre (y ∷ ys) x e) ∙ filled x (pre, y ∷ ys, e) z)))
+          (λ z. absurd (none-some (row_id (f y).row) (sym (filled x (pre, y ∷ ys, e) z) ∙ next_here pre (y ∷ ys) x e)))
           (λ n. omega arith)
           (cases_eq (count (f x)) 0),
       subst (λ r. Lacks r (each f (y ∷ ys))) (sym (named x)) (lacks x (y ∷ ys) (λ t. a x (pre, t.0, t.1, e ∙ ap (λ l. pre ++ x ∷ l) t.2))),
@@ -122,7 +122,7 @@ module _ (d : Draft) where
   -- The last run is joined to none.
   unjoined : (x : ℕ) → LinkedOn (sheet_of d) x → next_in (runs_under (sheet_of d)) x ≡ None → (run_at (sheet_of d) x).joined ≡ false
   unjoined x (inl e) n = ap not (eq-eqb (row (sheet_of d).rows x).next.0 no_link e)
-  unjoined x (inr h) n = absurd (some_none (row (sheet_of d).rows x).next (sym h.0 ∙ n))
+  unjoined x (inr h) n = absurd (none-some (row (sheet_of d).rows x).next (sym n ∙ h.0))
 
   draft_listed : InOrder (sheet_of d) → Listed (runs_under (sheet_of d))
   draft_listed o =
@@ -188,18 +188,18 @@ draft_sound d t = record {
 }
 
 -- The characters of a run take up its text.
-pub draft_total : (d : Draft) → ∥ InOrder (sheet_of d) ∥₁ → (x : ℕ) → IsRun (sheet_of d) x → total (lengths_at (sheet_of d) x) ≤ length (text_at (sheet_of d) x)
+pub draft_total : (d : Draft) → ∥ InOrder (sheet_of d) ∥₁ → (x : ℕ) → IsRun (sheet_of d) x → sum (lengths_at (sheet_of d) x) ≤ length (text_at (sheet_of d) x)
 draft_total d t x l =
     ∥∥₁_elim t le_prop (λ o.
     let e = ended_total (text_at (sheet_of d) x) (lengths_at (sheet_of d) x) 0 (o.characters x l).0.ended in
     omega (arith, e))
 
-ended_small : (bs ns : List ℕ) (at : ℕ) → Ended bs at ns → total ns ≤ 255 * length ns
+ended_small : (bs ns : List ℕ) (at : ℕ) → Ended bs at ns → sum ns ≤ 255 * length ns
 ended_small bs [] at e = omega arith
-ended_small bs (n ∷ ns) at (s, m, b, e) = let h = ended_small bs ns (at + n) e in omega (arith, h, m)
+ended_small bs (n ∷ ns) at (s, m, b, e) = let h = ended_small bs ns (at + n) e in let c = sum_by-cons (λ x. x) n ns in omega (arith, h, m, c)
 
 -- The bytes of a run's characters are few.
-pub draft_small : (d : Draft) → ∥ InOrder (sheet_of d) ∥₁ → (x : ℕ) → IsRun (sheet_of d) x → total (lengths_at (sheet_of d) x) ≤ 65025
+pub draft_small : (d : Draft) → ∥ InOrder (sheet_of d) ∥₁ → (x : ℕ) → IsRun (sheet_of d) x → sum (lengths_at (sheet_of d) x) ≤ 65025
 draft_small d t x l =
     ∥∥₁_elim t le_prop (λ o.
     let f = (o.characters x l).0 in
@@ -218,10 +218,10 @@ blank_sound = record {
   bulleted = λ e. absurd (false≢true e);
 }
 
-sound_by : (b : Bool) (d : Draft) → (b ≡ false → ∥ InOrder (sheet_of d) ∥₁) → Sound (doc_by b (sheet_of d))
-sound_by true d h = blank_sound
-sound_by false d h = draft_sound d (h refl)
+sound_by : (o : Option Draft) → ForSome o (λ d. ∥ InOrder (sheet_of d) ∥₁) → Sound (doc_by o)
+sound_by None h = blank_sound
+sound_by (Some d) h = draft_sound d (h d refl)
 
 -- Every page is a sound source, the blank one too.
 pub page_sound : (p : Page) → Sound (page_doc p)
-page_sound p = sound_by p.blank p.draft p.ordered
+page_sound p = sound_by p.draft p.ordered

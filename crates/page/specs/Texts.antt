@@ -19,11 +19,6 @@ abbrev pub AllAre : List ℕ → List (List ℕ) → Type 0
 AllAre c [] = Unit {0}
 AllAre c (k ∷ ks) = (k ≡ c) × AllAre c ks
 
--- The sum of the lengths.
-abbrev pub total : List ℕ → ℕ
-total [] = 0
-total (n ∷ ns) = n + total ns
-
 -- Whether the last byte is a line feed, 0A.
 abbrev pub feeds : List ℕ → Bool
 feeds [] = false

@@ -10,17 +10,10 @@ mod judge;
 mod make;
 mod runs;
 
-// What is asked of each run, in the order of the refusals' numbers.
-#[derive(Clone, Copy)]
-pub(crate) enum Question {
-    Characters,
-    Words,
-    Line,
-}
-
 #[derive(Clone, Copy)]
 pub struct Draft<'a> {
     pub(crate) tree: Tree<'a>,
+    // the tree's, kept since nearly every call asks for it
     pub(crate) root: NodeId,
     pub(crate) text: &'a [u8],
     pub(crate) lengths: &'a [u8],

@@ -1,69 +1,51 @@
 // Which sources are piled up over a page: a password is read without words, and masked where its
 // characters would tell it.
-ghost use Rattle.std.specs.Prelude.{◌≡◌, false, Decides};
-ghost use Rattle.page.specs.Pages.{page_doc};
-ghost use Rattle.page.specs.Layering.{IsPassword, Uniform, Differs, LayerOf, Layers};
+ghost use Rattle.std.specs.Prelude.{◌↔◌, IsTrue};
+ghost use Rattle.page.specs.Sheets.{sheet_of, runs_under};
+ghost use Rattle.page.specs.Judging.{InOrder};
+ghost use Rattle.page.specs.Layering.{HasPassword, Uniform, LayerOf, Layers};
 
+use crate::draft::Draft;
 use crate::page::Page;
-use crate::part::all_are;
-use rows::node::*;
-use rows::role;
+use rows::role::Role;
 use source::layered::{Layer, Layered};
 
-impl<'a> Page<'a> {
-    fn is_password(&self) -> bool
-        ensures { Decides result (IsPassword self.now) }
+impl<'a> Draft<'a> {
+    fn has_password(&self) -> bool
+        ensures { IsTrue result ↔ HasPassword self.now }
     {
-        if self.blank {
-            return false;
-        }
-        self.draft.row(self.draft.root).role == role::PASSWORD_INPUT
-    }
-
-    // Whether the row is a run with a character other than this one.
-    fn differs(&self, id: NodeId, character: &[u8]) -> bool
-        requires { self.now.blank ≡ false }
-        ensures { Differs self.now id.0 character.now result }
-    {
-        if !self.draft.is_run(id) {
-            return false;
-        }
-        if all_are(character, self.draft.text(id), self.draft.lengths(id)) {
-            return false;
-        }
-        true
+        self.row(self.root).has_role(Role::PasswordInput)
     }
 
     // Whether no two characters under the root differ. The first run has characters, unless no run does.
     fn is_uniform(&self) -> bool
-        requires { self.now.blank ≡ false }
-        ensures { Decides result (Uniform (page_doc self.now).runs) }
+        requires { ∥ InOrder (sheet_of self.now) ∥₁ }
+        ensures { IsTrue result ↔ Uniform (runs_under (sheet_of self.now)) }
     {
-        let Some(first) = self.draft.first() else {
+        let Some(first) = self.first() else {
             return true;
         };
-        let lengths = self.draft.lengths(first);
-        if lengths.len() == 0 {
+        let parts = self.parts(first);
+        let Some(length) = parts.lengths.first() else {
             return true;
-        }
-        let text = self.draft.text(first);
-        let character = &text[0..lengths[0] as usize];
-        for id in 0..self.draft.tree.len() as u16 {
-            if self.differs(NodeId(id), character) {
-                return false;
-            }
-        }
-        true
+        };
+        let character = &parts.text[..usize::from(*length)];
+        self.first_fault(|id| self.parts(id).has_only(character))
+            .is_none()
     }
+}
 
+impl<'a> Page<'a> {
     // How much of the layers a page is read through.
     fn layer(&self) -> Layer
         ensures { LayerOf self.now result }
     {
-        if !self.is_password() {
+        let Some(draft) = &self.draft else {
             return Layer::Plain;
-        }
-        if self.is_uniform() {
+        };
+        if !draft.has_password() {
+            Layer::Plain
+        } else if draft.is_uniform() {
             Layer::Unworded
         } else {
             Layer::Masked

@@ -1,16 +1,17 @@
 // The lines of standard input, one at a time. A line can be handed back, to be read again.
-ghost use Rattle.std.specs.Prelude.{◌≡◌, IfErr};
+ghost use Rattle.std.specs.Prelude.{◌≡◌, ◌+◌, ◌<◌, ◌≤◌, IfOk, IfErr, OnOk, OnSome};
 ghost use Rattle.std.specs.IoError.{error_kind};
+ghost use Rattle.panel.specs.Lines.{lines_left};
 
 use std::alloc::Global;
-use std::io::{self, BufRead, BufReader, ErrorKind, Stdin};
+use std::io::{self, BufRead, BufReader, ErrorKind, Split, Stdin};
+use std::iter::Fuse;
 
 #[derive(Drop)]
 pub struct Input {
-    reader: BufReader<Stdin>,
-    line: Vec<u8>,
-    // the line that stands in the buffer is yet to be read
-    kept: bool,
+    lines: Fuse<Split<BufReader<Stdin>>>,
+    // a line that was handed back
+    kept: Option<Vec<u8>>,
 }
 
 impl Input {
@@ -20,29 +21,26 @@ impl Input {
     {
         let heap: Global = rt.alloc();
         Ok(Input {
-            reader: BufReader::new(heap, rt.stdin())?,
-            line: Vec::new(heap),
-            kept: false,
+            lines: BufReader::new(heap, rt.stdin())?.split(heap, b'\n').fuse(),
+            kept: None,
         })
     }
 
-    // Goes to the next line; false where there is none.
-    pub fn advance(&mut self) -> anyhow::Result<bool> {
-        if self.kept {
-            self.kept = false;
-            return Ok(true);
+    // Nothing at the end of the input.
+    pub fn next_line(&mut self) -> io::Result<Option<Vec<u8>>>
+        ensures goes { IfOk result (λ line. OnSome line (lines_left self.new < lines_left self.old)) }
+        ensures ends { OnOk result (lines_left self.new ≤ lines_left self.old) }
+    {
+        match self.kept.take() {
+            Some(line) => Ok(Some(line)),
+            None => self.lines.next().transpose(),
         }
-        self.line.clear();
-        let bytes = self.reader.read_until(b'\n', &mut self.line)?;
-        Ok(bytes > 0)
     }
 
-    pub fn line(&self) -> &[u8] {
-        self.line.as_slice()
-    }
-
-    // The line is read again by the next `advance`.
-    pub fn keep(&mut self) {
-        self.kept = true;
+    // The line is read again by the next `next_line`.
+    pub fn keep(&mut self, line: Vec<u8>)
+        ensures { lines_left self.new ≤ lines_left self.old + 1 }
+    {
+        self.kept = Some(line);
     }
 }

@@ -1,16 +1,16 @@
 // The calls on an open page, and the sources that it is read through.
+use crate::command::Command;
 use crate::position_calls::answer_position;
-use crate::range_calls::answer_ranges;
-use crate::reply::Reply;
+use crate::range_calls::{answer_piece, answer_range, answer_written};
+use crate::reply::Answer;
 use crate::strip::Strip;
 use crate::text_calls::answer_text;
-use crate::tree_calls::{answer_judge, answer_tree};
-use crate::words::*;
+use crate::tree_calls::{Step, answer_judge, answer_parent, answer_path, answer_walk};
 use page::page::Page;
 use rows::node::Tables;
 use source::layered::Layered;
 use source::source::Source;
-use std::alloc::{AllocError, Global};
+use std::alloc::Global;
 
 #[derive(Clone, Copy)]
 pub struct Open<'a> {
@@ -25,23 +25,26 @@ pub fn answer_page(
     heap: Global,
     open: &Open<'_>,
     strip: &mut Strip,
-    verb: &str,
-    words: &mut Words<'_>,
-) -> Result<Reply, AllocError> {
-    if verb == "judge" {
-        return Ok(answer_judge(open.tables, words));
+    command: &mut Command<'_>,
+) -> Answer {
+    let page = &open.page;
+    let source = &open.source;
+    let root = source.root();
+    match command.verb {
+        "judge" => answer_judge(open.tables, command),
+        "strip" => strip.change(heap, command),
+        "parent_and_index" => answer_parent(page, command),
+        "path" => answer_path(heap, page, command),
+        "first" => answer_walk(page, root, command, |_| Ok(Step::First)),
+        "last" => answer_walk(page, root, command, |_| Ok(Step::Last)),
+        "next" => answer_walk(page, root, command, |words| words.row().map(Step::Next)),
+        "previous" => answer_walk(page, root, command, |words| words.row().map(Step::Previous)),
+        "range" => answer_range(source, command),
+        "text" => answer_written(heap, source, strip.bytes(), command),
+        "piece" => answer_piece(heap, source, strip.bytes(), command),
+        _ => match answer_position(source, command)? {
+            Some(reply) => Ok(reply),
+            None => answer_text(heap, command),
+        },
     }
-    if let Some(reply) = strip.change(heap, verb, words)? {
-        return Ok(reply);
-    }
-    if let Some(reply) = answer_tree(heap, &open.page, open.source.root(), verb, words)? {
-        return Ok(reply);
-    }
-    if let Some(reply) = answer_position(&open.source, verb, words) {
-        return Ok(reply);
-    }
-    if let Some(reply) = answer_ranges(heap, &open.source, strip.bytes(), verb, words)? {
-        return Ok(reply);
-    }
-    answer_text(heap, verb, words)
 }

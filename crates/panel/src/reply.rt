@@ -1,166 +1,174 @@
 // What a command answers, and how it is printed.
+use crate::command::Command;
+use crate::failure::Failure;
 use position::position::Position;
+use range::range::Range;
 use rows::node::NodeId;
 use rows::refusal::Refusal;
+use std::cmp::Ordering;
+use std::fmt;
 
 #[derive(Drop)]
 pub enum Reply {
     // nothing is printed
     Silent,
-    // the line is no command, or not as the command is written
-    Wrong(&'static str),
-    Refused(Refusal),
-    Word(&'static str),
+    Flag(bool),
+    Order(Ordering),
+    // of a text that is no well-formed UTF-8
+    IllFormed,
+    // of rows that are as they must be
+    Sound,
     Number(usize),
     Pair(usize, usize),
     Numbers(Vec<u16>),
     Row(Option<NodeId>),
     Place(Position),
-    Ends(Position, Position),
+    Ends(Range),
     Bytes(Vec<u8>),
     Counted(Vec<u8>),
     // a reader's range, and the piece that it read
-    Read(Position, Position, Vec<u8>),
+    Read(Range, Vec<u8>),
 }
 
-pub fn of_flag(answer: Result<bool, Refusal>) -> Reply {
-    match answer {
-        Ok(true) => Reply::Word("yes"),
-        Ok(false) => Reply::Word("no"),
-        Err(refusal) => Reply::Refused(refusal),
+pub type Answer = Result<Reply, Failure>;
+
+// What a call answers for a line's command; a line with no word has no reply.
+pub fn answer_line<F>(line: &[u8], call: F) -> Answer
+where
+    F: FnOnce(&mut Command<'_>) -> Answer + Drop,
+    requires { F.IsAlwaysCallable call }
+{
+    let Some(mut command) = Command::of(line)? else {
+        return Ok(Reply::Silent);
+    };
+    call(&mut command)
+}
+
+impl From<bool> for Reply {
+    fn from(flag: bool) -> Reply {
+        Reply::Flag(flag)
     }
 }
 
-pub fn of_number(answer: Result<usize, Refusal>) -> Reply {
-    match answer {
-        Ok(n) => Reply::Number(n),
-        Err(refusal) => Reply::Refused(refusal),
+impl From<Ordering> for Reply {
+    fn from(order: Ordering) -> Reply {
+        Reply::Order(order)
     }
 }
 
-pub fn of_position(answer: Result<Position, Refusal>) -> Reply {
-    match answer {
-        Ok(p) => Reply::Place(p),
-        Err(refusal) => Reply::Refused(refusal),
+impl From<usize> for Reply {
+    fn from(number: usize) -> Reply {
+        Reply::Number(number)
     }
 }
 
-pub fn of_row(answer: Result<Option<NodeId>, Refusal>) -> Reply {
-    match answer {
-        Ok(row) => Reply::Row(row),
-        Err(refusal) => Reply::Refused(refusal),
+impl From<Option<NodeId>> for Reply {
+    fn from(row: Option<NodeId>) -> Reply {
+        Reply::Row(row)
+    }
+}
+
+impl From<Position> for Reply {
+    fn from(position: Position) -> Reply {
+        Reply::Place(position)
+    }
+}
+
+impl From<Range> for Reply {
+    fn from(range: Range) -> Reply {
+        Reply::Ends(range)
     }
 }
 
 // A refusal's number, with the row or the bytes that go with it.
-pub fn print_refusal(rt: &HostRuntime, before: &str, refusal: Refusal) -> anyhow::Result<()> {
-    let number = refusal.number();
-    match (refusal.row(), refusal.needed()) {
-        (Some(row), _) => {
-            let row = row.0;
-            println!(rt; "{before} {number} {row}")?;
+#[derive(Clone, Copy)]
+pub struct Numbered(pub Refusal);
+
+impl fmt::Display for Numbered {
+    fn fmt<W: fmt::Write>(&self, f: &mut fmt::Formatter<W>) -> fmt::Result {
+        let Numbered(refusal) = self;
+        let number = refusal.number();
+        match (refusal.row(), refusal.needed()) {
+            (Some(row), _) => write!(f, "{number} {}", row.0),
+            (None, Some(bytes)) => write!(f, "{number} {bytes}"),
+            (None, None) => write!(f, "{number}"),
         }
-        (None, Some(bytes)) => println!(rt; "{before} {number} {bytes}")?,
-        (None, None) => println!(rt; "{before} {number}")?,
     }
-    Ok(())
 }
 
-fn print_position(rt: &HostRuntime, p: Position) -> anyhow::Result<()> {
-    let root = p.root.0;
-    let row = p.row.0;
-    let index = p.index;
-    print!(rt; " {root}:{row}:{index}")?;
-    Ok(())
-}
+// ROOT:ROW:INDEX
+#[derive(Clone, Copy)]
+struct Spelt(Position);
 
-fn print_ends(rt: &HostRuntime, p: Position, q: Position) -> anyhow::Result<()> {
-    print!(rt; "=")?;
-    print_position(rt, p)?;
-    print_position(rt, q)
+impl fmt::Display for Spelt {
+    fn fmt<W: fmt::Write>(&self, f: &mut fmt::Formatter<W>) -> fmt::Result {
+        let Spelt(p) = self;
+        write!(f, "{}:{}:{}", p.root.0, p.row.0, p.index)
+    }
 }
 
 // Bytes in hexadecimal digits, behind a blank; nothing for none.
-fn print_bytes(rt: &HostRuntime, bytes: &[u8]) -> anyhow::Result<()> {
-    if !bytes.is_empty() {
-        print!(rt; " ")?;
-    }
-    for byte in bytes {
-        print!(rt; "{byte:02x}")?;
-    }
-    println!(rt; "")?;
-    Ok(())
-}
+#[derive(Clone, Copy)]
+struct Hex<'a>(&'a [u8]);
 
-fn print_counted(rt: &HostRuntime, bytes: &[u8]) -> anyhow::Result<()> {
-    let count = bytes.len();
-    print!(rt; " {count}")?;
-    print_bytes(rt, bytes)
-}
-
-fn print_numbers(rt: &HostRuntime, numbers: &[u16]) -> anyhow::Result<()> {
-    print!(rt; "=")?;
-    for n in numbers {
-        print!(rt; " {n}")?;
-    }
-    println!(rt; "")?;
-    Ok(())
-}
-
-fn print_row(rt: &HostRuntime, row: Option<NodeId>) -> anyhow::Result<()> {
-    match row {
-        Some(row) => {
-            let row = row.0;
-            println!(rt; "= {row}")?;
+impl<'a> fmt::Display for Hex<'a> {
+    fn fmt<W: fmt::Write>(&self, f: &mut fmt::Formatter<W>) -> fmt::Result {
+        let Hex(bytes) = self;
+        if !bytes.is_empty() {
+            write!(f, " ")?;
         }
-        None => println!(rt; "= none")?,
+        for byte in bytes.iter() {
+            write!(f, "{byte:02x}")?;
+        }
+        Ok(())
     }
-    Ok(())
 }
 
-fn print_place(rt: &HostRuntime, p: Position) -> anyhow::Result<()> {
-    print!(rt; "=")?;
-    print_position(rt, p)?;
-    println!(rt; "")?;
-    Ok(())
-}
-
-// What is more than words and numbers.
-fn print_long(rt: &HostRuntime, reply: &Reply) -> anyhow::Result<()> {
-    match reply {
-        Reply::Ends(p, q) => {
-            print_ends(rt, *p, *q)?;
-            println!(rt; "")?;
+// What stands behind the mark of a reply, each word behind a blank.
+impl fmt::Display for Reply {
+    fn fmt<W: fmt::Write>(&self, f: &mut fmt::Formatter<W>) -> fmt::Result {
+        match self {
+            Reply::Silent => Ok(()),
+            Reply::Flag(true) => write!(f, " yes"),
+            Reply::Flag(false) => write!(f, " no"),
+            Reply::Order(Ordering::Less) => write!(f, " less"),
+            Reply::Order(Ordering::Equal) => write!(f, " equal"),
+            Reply::Order(Ordering::Greater) => write!(f, " greater"),
+            Reply::IllFormed => write!(f, " ill-formed"),
+            Reply::Sound => write!(f, " sound"),
+            Reply::Number(n) => write!(f, " {n}"),
+            Reply::Pair(m, n) => write!(f, " {m} {n}"),
+            Reply::Numbers(all) => {
+                for n in all.iter() {
+                    write!(f, " {n}")?;
+                }
+                Ok(())
+            }
+            Reply::Row(None) => write!(f, " none"),
+            Reply::Row(Some(row)) => write!(f, " {}", row.0),
+            Reply::Place(p) => write!(f, " {}", Spelt(*p)),
+            Reply::Ends(range) => write!(f, " {} {}", Spelt(range.start), Spelt(range.end)),
+            Reply::Bytes(bytes) => write!(f, "{}", Hex(bytes.as_slice())),
+            Reply::Counted(bytes) => write!(f, " {}{}", bytes.len(), Hex(bytes.as_slice())),
+            Reply::Read(range, bytes) => write!(
+                f,
+                " {} {} {}{}",
+                Spelt(range.start),
+                Spelt(range.end),
+                bytes.len(),
+                Hex(bytes.as_slice())
+            ),
         }
-        Reply::Bytes(bytes) => {
-            print!(rt; "=")?;
-            print_bytes(rt, bytes.as_slice())?;
-        }
-        Reply::Counted(bytes) => {
-            print!(rt; "=")?;
-            print_counted(rt, bytes.as_slice())?;
-        }
-        Reply::Read(p, q, bytes) => {
-            print_ends(rt, *p, *q)?;
-            print_counted(rt, bytes.as_slice())?;
-        }
-        _ => {}
     }
-    Ok(())
 }
 
-pub fn print_reply(rt: &HostRuntime, reply: &Reply) -> anyhow::Result<()> {
-    match reply {
-        Reply::Silent => {}
-        Reply::Wrong(text) => println!(rt; "? {text}")?,
-        Reply::Refused(refusal) => print_refusal(rt, "!", *refusal)?,
-        Reply::Word(word) => println!(rt; "= {word}")?,
-        Reply::Number(n) => println!(rt; "= {n}")?,
-        Reply::Pair(m, n) => println!(rt; "= {m} {n}")?,
-        Reply::Numbers(all) => print_numbers(rt, all.as_slice())?,
-        Reply::Row(row) => print_row(rt, *row)?,
-        Reply::Place(p) => print_place(rt, *p)?,
-        other => print_long(rt, other)?,
+pub fn print_answer(rt: &impl Print, answer: Answer) -> anyhow::Result<()> {
+    match answer {
+        Ok(Reply::Silent) => {}
+        Ok(reply) => println!(rt; "={reply}")?,
+        Err(Failure::Mistake(mistake)) => println!(rt; "? {mistake}")?,
+        Err(Failure::Refusal(refusal)) => println!(rt; "! {}", Numbered(refusal))?,
+        Err(Failure::OutOfMemory(error)) => return Err(error.into()),
     }
     Ok(())
 }

@@ -1,17 +1,20 @@
 // Answers lines while a page is open, and while a reader is open on it. A line that changes the tables,
 // or opens a page anew, closes both: it is handed back.
+ghost use Rattle.std.specs.Prelude.{◌≤◌, OnOk};
+ghost use Rattle.panel.specs.Lines.{lines_left};
+
+use crate::command::Command;
+use crate::failure::Mistake;
 use crate::input::Input;
 use crate::page_calls::{Open, answer_page};
-use crate::reader_calls::{answer_reader, of_ends};
-use crate::reply::{Reply, print_refusal, print_reply};
+use crate::reader_calls::answer_reader;
+use crate::reply::{Numbered, answer_line, print_answer};
 use crate::strip::Strip;
-use crate::words::*;
 use page::page::Page;
 use reader::reader::Reader;
 use rows::node::{NodeId, Tables};
 use rows::refusal::Refusal;
 use source::source::Source;
-use std::alloc::AllocError;
 
 // Where a line belongs while a page is open.
 #[derive(Clone, Copy)]
@@ -24,120 +27,71 @@ enum Level {
 }
 
 fn level_of(line: &[u8]) -> Level {
-    let Some(mut words) = Words::of(line) else {
+    let Ok(Some(mut command)) = Command::of(line) else {
         return Level::Page;
     };
-    match words.next() {
-        Some("row" | "child" | "length" | "word" | "clear" | "open") => Level::Tables,
-        Some("text") => text_level(words),
-        Some("reader") => Level::Reader,
-        Some("close") => Level::Close,
+    match command.verb {
+        "row" | "child" | "length" | "word" | "clear" | "open" => Level::Tables,
+        "text" => text_level(&mut command),
+        "reader" => Level::Reader,
+        "close" => Level::Close,
         _ => Level::Page,
     }
 }
 
 // `text` with one word appends to the table, and with more it is a call.
-fn text_level(mut words: Words<'_>) -> Level {
-    let _ = words.next();
-    if words.are_done() {
-        Level::Tables
-    } else {
-        Level::Page
+fn text_level(command: &mut Command<'_>) -> Level {
+    let _ = command.word();
+    match command.end() {
+        Ok(()) => Level::Tables,
+        Err(_) => Level::Page,
     }
 }
 
-fn print_opened(rt: &HostRuntime, open: &Open<'_>, refusal: Option<Refusal>) -> anyhow::Result<()> {
+// As `Page::open` answers: a page is there in each case.
+fn print_opened(rt: &impl Print, open: &Open<'_>, refusal: Option<Refusal>) -> anyhow::Result<()> {
     match refusal {
-        Some(refusal) => print_refusal(rt, "refused", refusal)?,
-        None => if open.source.is_masked() {
-            println!(rt; "page masked")?;
-        } else {
-            println!(rt; "page plain")?;
-        },
+        Some(refusal) => println!(rt; "refused {}", Numbered(refusal))?,
+        None if open.source.is_masked() => println!(rt; "page masked")?,
+        None => println!(rt; "page plain")?,
     }
     Ok(())
 }
 
-// The verb of a line, and the words behind it.
-fn parsed(line: &[u8]) -> Result<(&str, Words<'_>), Reply> {
-    let Some(mut words) = Words::of(line) else {
-        return Err(Reply::Wrong(NO_TEXT));
-    };
-    match words.next() {
-        Some(verb) => Ok((verb, words)),
-        None => Err(Reply::Silent),
-    }
-}
-
-fn answer_line(
-    rt: &HostRuntime,
-    open: &Open<'_>,
-    strip: &mut Strip,
-    line: &[u8],
-) -> Result<Reply, AllocError> {
-    match parsed(line) {
-        Ok((verb, mut words)) => answer_page(rt.alloc(), open, strip, verb, &mut words),
-        Err(reply) => Ok(reply),
-    }
-}
-
-fn answer_with<S: Source>(
-    rt: &HostRuntime,
-    open: &Open<'_>,
-    reader: &mut Reader<S>,
-    strip: &mut Strip,
-    line: &[u8],
-) -> Result<Reply, AllocError> {
-    match parsed(line) {
-        Ok((verb, mut words)) => {
-            if let Some(reply) = answer_reader(
-                rt.alloc(),
-                reader,
-                strip.bytes(),
-                verb,
-                &mut words,
-            ) {
-                return Ok(reply);
-            }
-            answer_page(rt.alloc(), open, strip, verb, &mut words)
-        }
-        Err(reply) => Ok(reply),
-    }
-}
-
 // Whether a line has one word alone.
 fn is_alone(line: &[u8]) -> bool {
-    let Some(mut words) = Words::of(line) else {
-        return false;
-    };
-    words.next().is_some() && words.are_done()
+    match Command::of(line) {
+        Ok(Some(mut command)) => command.end().is_ok(),
+        _ => false,
+    }
 }
 
 // `reader`: a reader just opened, and the calls on it, up to `close`.
 fn serve_reader(
-    rt: &HostRuntime,
+    rt: &(impl Print + AllocGlobal),
     input: &mut Input,
     strip: &mut Strip,
     open: &Open<'_>,
-) -> anyhow::Result<()> {
+) -> anyhow::Result<()>
+    ensures { OnOk result (lines_left input.new ≤ lines_left input.old) }
+{
     let mut reader = Reader::open(open.source);
-    print_reply(rt, &of_ends(reader.range()))?;
-    for _ in 0..u64::MAX {
-        if !input.advance()? {
-            break;
-        }
-        match level_of(input.line()) {
-            Level::Page => print_reply(
+    print_answer(rt, Ok(reader.range().into()))?;
+    while let Some(line) = input.next_line()? {
+        match level_of(line.as_slice()) {
+            Level::Page => print_answer(
                 rt,
-                &answer_with(rt, open, &mut reader, strip, input.line())?,
+                answer_line(line.as_slice(), |command| {
+                    answer_reader(rt.alloc(), open, &mut reader, strip, command)
+                }),
             )?,
-            Level::Close if is_alone(input.line()) => {
-                print_reply(rt, &of_ends(reader.close()))?;
+            Level::Close if is_alone(line.as_slice()) => {
+                print_answer(rt, Ok(reader.close().into()))?;
                 return Ok(());
             }
-            Level::Close => print_reply(rt, &Reply::Wrong(TOO_MANY))?,
-            _ => {
-                input.keep();
+            Level::Close => print_answer(rt, Err(Mistake::TooMany.into()))?,
+            Level::Tables | Level::Reader => {
+                input.keep(line);
                 break;
             }
         }
@@ -147,12 +101,14 @@ fn serve_reader(
 
 // `open ROOT`: opens a page, and answers the calls on it, or on the blank page.
 pub fn serve_page(
-    rt: &HostRuntime,
+    rt: &(impl Print + AllocGlobal),
     input: &mut Input,
     strip: &mut Strip,
     tables: Tables<'_>,
     root: NodeId,
-) -> anyhow::Result<()> {
+) -> anyhow::Result<()>
+    ensures { OnOk result (lines_left input.new ≤ lines_left input.old) }
+{
     let (page, refusal) = Page::open(tables, root);
     let open = Open {
         tables,
@@ -160,18 +116,20 @@ pub fn serve_page(
         source: page.layered(),
     };
     print_opened(rt, &open, refusal)?;
-    for _ in 0..u64::MAX {
-        if !input.advance()? {
-            break;
-        }
-        match level_of(input.line()) {
+    while let Some(line) = input.next_line()? {
+        match level_of(line.as_slice()) {
             Level::Tables => {
-                input.keep();
+                input.keep(line);
                 break;
             }
-            Level::Reader if is_alone(input.line()) => serve_reader(rt, input, strip, &open)?,
-            Level::Reader => print_reply(rt, &Reply::Wrong(TOO_MANY))?,
-            _ => print_reply(rt, &answer_line(rt, &open, strip, input.line())?)?,
+            Level::Reader if is_alone(line.as_slice()) => serve_reader(rt, input, strip, &open)?,
+            Level::Reader => print_answer(rt, Err(Mistake::TooMany.into()))?,
+            Level::Close | Level::Page => print_answer(
+                rt,
+                answer_line(line.as_slice(), |command| {
+                    answer_page(rt.alloc(), &open, strip, command)
+                }),
+            )?,
         }
     }
     Ok(())

@@ -1,6 +1,6 @@
 // The caller's strip, which stands for the text of a masked page: at first 255 bullets.
-use crate::reply::Reply;
-use crate::words::*;
+use crate::command::{Command, unhex};
+use crate::reply::{Answer, Reply};
 use std::alloc::{AllocError, Global};
 
 #[derive(Drop)]
@@ -10,42 +10,26 @@ pub struct Strip {
 
 impl Strip {
     pub fn bullets(heap: Global) -> Result<Strip, AllocError> {
-        let mut bytes = Vec::new(heap);
-        for _ in 0..255 {
-            bytes.push(0xE2)?;
-            bytes.push(0x80)?;
-            bytes.push(0xA2)?;
-        }
-        Ok(Strip { bytes })
+        Ok(Strip {
+            bytes: "\u{2022}".repeat(heap, 255)?.into_bytes(),
+        })
     }
 
     pub fn bytes(&self) -> &[u8] {
         self.bytes.as_slice()
     }
 
-    // `strip HEX`, `strip bullets`; nothing where the verb is another.
-    pub fn change(
-        &mut self,
-        heap: Global,
-        verb: &str,
-        words: &mut Words<'_>,
-    ) -> Result<Option<Reply>, AllocError> {
-        if verb != "strip" {
-            return Ok(None);
-        }
-        let word = words.next().unwrap_or("");
-        if !words.are_done() {
-            return Ok(Some(Reply::Wrong(TOO_MANY)));
-        }
-        if word == "bullets" {
-            let all = Strip::bullets(heap)?;
-            self.bytes = all.bytes;
-            return Ok(Some(Reply::Silent));
-        }
-        match unhex(heap, word)? {
-            Some(bytes) => self.bytes = bytes,
-            None => return Ok(Some(Reply::Wrong(NO_BYTES))),
-        }
-        Ok(Some(Reply::Silent))
+    // `strip HEX`, `strip bullets`
+    pub fn change(&mut self, heap: Global, command: &mut Command<'_>) -> Answer {
+        let word = command.word().unwrap_or("");
+        command.end()?;
+        *self = if word == "bullets" {
+            Strip::bullets(heap)?
+        } else {
+            Strip {
+                bytes: unhex(heap, word)?,
+            }
+        };
+        Ok(Reply::Silent)
     }
 }

@@ -72,14 +72,8 @@ module _ (d : Document) (p q : Position) (s : Sound d) (l : Lawful d p) (e : q �
 
 -- biased to end
 module _ (d : Document) (p : Position) (s : Sound d) (l : Lawful d p) where
-  pub to_end_inside : 0 < p.index → BiasedEnd d p p
-  to_end_inside h = (sym (cond-false (eqb p.index 0) (or_end d.runs (previous_in d.runs p.row.0) p) p (ne_eqb p.index 0 (omega arith))), refl)
-
   start_is : p.index ≤ 0 → to_end d p ≡ or_end d.runs (previous_in d.runs p.row.0) p
   start_is h = cond-true (eqb p.index 0) (or_end d.runs (previous_in d.runs p.row.0) p) p (eq-eqb p.index 0 (omega arith))
-
-  pub to_end_first : p.index ≤ 0 → None ≡ previous_in d.runs p.row.0 → BiasedEnd d p p
-  to_end_first h v = (sym (start_is h ∙ ap (λ o. or_end d.runs o p) (sym v)), refl)
 
   pub to_end_run : (r : NodeId) (n : ℕ) → p.index ≤ 0 → Some r ≡ previous_in d.runs p.row.0 → Some n ≡ count_in d.runs r.0 → BiasedEnd d p (record { root = p.root; row = r; index = n })
   to_end_run r n h v c =

@@ -1,7 +1,6 @@
 -- Places and positions answer one another.
 use Rattle.std.proofs.Common.{◌≡◌, ℕ, ◌+◌, ◌-◌, ◌<◌, ◌≤◌, true, cond, eqb, ltb, List, [], ◌∷◌, Some, None, Ok, Err, Result, sym, refl, ap, ◌∙◌, subst, ⊎_elim, arith}
 use Rattle.std.proofs.lemmas.Bool.{eqb-true, eqb-false, eq-eqb, ne_eqb, ltb-true, ltb-false, lt-ltb, le-ltb, cases_Bool, cases_lt, cond_both, cond-true, cond-false}
-use Rattle.rows.specs.declared.node.NodeId.{NodeId}
 use Rattle.rows.specs.declared.refusal.Refusal.{Refusal}
 use Rattle.source.specs.Runs.{Run, Document, Sound, count, row_id, Lacks, Listed, count_in, head_row, next_in, first_row}
 use Rattle.source.specs.Pieces.{Within}
@@ -176,15 +175,12 @@ module _ (d : Document) (p : Position) (n : ℕ) (s : Sound d) (e : p.root.0 ≡
   pub biases_inside : p.index < n → Answers (Lawful d p) (BiasedStart d p) (Ok p)
   biases_inside h = biases_of p (omega arith) (cond-false (eqb p.index n) (or_start (next_in d.runs p.row.0) p) p (ne_eqb p.index n (omega arith)))
 
-  pub biases_next : (r : NodeId) → p.index ≤ n → n ≤ p.index → Some r ≡ next_in d.runs p.row.0 → Answers (Lawful d p) (BiasedStart d p) (Ok (or_start (Some r) p))
-  biases_next r h i x =
-      biases_of (or_start (Some r) p) h
-      (cond-true (eqb p.index n) (or_start (next_in d.runs p.row.0) p) p (eq-eqb p.index n (omega arith)) ∙ ap (λ o. or_start o p) (sym x))
+  pub biases_at_end : p.index ≤ n → n ≤ p.index → Answers (Lawful d p) (BiasedStart d p) (Ok (or_start (next_in d.runs p.row.0) p))
+  biases_at_end h i =
+      biases_of (or_start (next_in d.runs p.row.0) p) h (cond-true (eqb p.index n) (or_start (next_in d.runs p.row.0) p) p (eq-eqb p.index n (omega arith)))
 
   pub biases_last : p.index ≤ n → n ≤ p.index → None ≡ next_in d.runs p.row.0 → Answers (Lawful d p) (BiasedStart d p) (Ok p)
-  biases_last h i x =
-      biases_of p h
-      (cond-true (eqb p.index n) (or_start (next_in d.runs p.row.0) p) p (eq-eqb p.index n (omega arith)) ∙ ap (λ o. or_start o p) (sym x))
+  biases_last h i x = subst (λ o. Answers (Lawful d p) (BiasedStart d p) (Ok (or_start o p))) (sym x) (biases_at_end h i)
 
 -- a place at its run's end is the end place
 pub place_full : (o : ℕ) (xs : List Run) (k n : ℕ) → Listed xs → k ≤ total_in xs → Some n ≡ count_in xs (place_in o xs k).row.0 → n ≤ (place_in o xs k).index → k ≡ total_in xs

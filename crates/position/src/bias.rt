@@ -4,7 +4,6 @@ ghost use Rattle.source.specs.Runs.{count_in};
 ghost use Rattle.position.specs.Places.{Lawful, Answers, BiasedStart, BiasedEnd, document_start, document_end, place, total, size_of};
 
 use crate::position::Position;
-use rows::node::NodeId;
 use rows::refusal::Refusal;
 use source::source::Source;
 
@@ -12,28 +11,18 @@ use source::source::Source;
 pub fn biased_to_start<S: Source>(s: &S, p: Position) -> Result<Position, Refusal>
     ensures { Answers (Lawful (S.Source.doc s.now) p) (BiasedStart (S.Source.doc s.now) p) result }
 {
-    if p.root.0 != s.root().0 {
+    if p.root != s.root() {
         return Err(Refusal::Misplaced);
     }
-    match s.character_count(p.row) {
-        None => Err(Refusal::Misplaced),
-        Some(n) => {
-            if p.index > n {
-                return Err(Refusal::Misplaced);
-            }
-            if p.index < n {
-                return Ok(p);
-            }
-            match s.next(p.row) {
-                Some(row) => Ok(Position {
-                    root: p.root,
-                    row,
-                    index: 0,
-                }),
-                None => Ok(p),
-            }
-        }
+    let count = s.character_count(p.row).ok_or(Refusal::Misplaced)?;
+    if p.index > count {
+        return Err(Refusal::Misplaced);
     }
+    if p.index < count {
+        return Ok(p);
+    }
+    let start = s.next(p.row).map(|row| Position { row, index: 0, ..p });
+    Ok(start.unwrap_or(p))
 }
 
 // A run's start becomes the previous run's end, if a run precedes.
@@ -47,14 +36,8 @@ pub fn biased_to_end<S: Source>(s: &S, p: Position) -> Result<Position, Refusal>
     let Some(row) = s.previous(p.row) else {
         return Ok(p);
     };
-    match s.character_count(row) {
-        Some(index) => Ok(Position {
-            root: p.root,
-            row,
-            index,
-        }),
-        None => Err(Refusal::Misplaced),
-    }
+    let index = s.character_count(row).ok_or(Refusal::Misplaced)?;
+    Ok(Position { row, index, ..p })
 }
 
 // The first run's start, which is the first place.
@@ -78,16 +61,6 @@ pub fn document_end<S: Source>(s: &S) -> Position
     Position {
         root: s.root(),
         row,
-        index: count_of(s, row),
-    }
-}
-
-// The count of a run; 0 for a row that is no run here.
-fn count_of<S: Source>(s: &S, row: NodeId) -> usize
-    ensures { result ≡ size_of (count_in (S.Source.doc s.now).runs row.0) }
-{
-    match s.character_count(row) {
-        Some(n) => n,
-        None => 0,
+        index: s.character_count(row).unwrap_or(0),
     }
 }

@@ -15,9 +15,8 @@ pub fn forward_to_character_start<S: Source>(s: &S, p: Position) -> Result<Posit
         Some(n) if q.index < n => biased_to_start(
             s,
             Position {
-                root: q.root,
-                row: q.row,
                 index: q.index + 1,
+                ..q
             },
         ),
         _ => Err(Refusal::AtEnd),
@@ -31,19 +30,16 @@ pub fn backward_to_character_start<S: Source>(s: &S, p: Position) -> Result<Posi
     let q = biased_to_start(s, p)?;
     if q.index > 0 {
         return Ok(Position {
-            root: q.root,
-            row: q.row,
             index: q.index - 1,
+            ..q
         });
     }
-    let Some(row) = s.previous(q.row) else {
-        return Err(Refusal::AtStart);
-    };
+    let row = s.previous(q.row).ok_or(Refusal::AtStart)?;
     match s.character_count(row) {
         Some(n) if n > 0 => Ok(Position {
-            root: q.root,
             row,
             index: n - 1,
+            ..q
         }),
         _ => Err(Refusal::Misplaced),
     }

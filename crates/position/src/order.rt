@@ -9,35 +9,22 @@ use rows::refusal::Refusal;
 use source::source::Source;
 use std::cmp::Ordering;
 
-// Equality of root, row and index as plain numbers: it asks no source and biases nothing.
+// Equality of root, row and index as plain numbers, by the name that the rules give it: it asks no source
+// and biases nothing.
 pub fn same(p: Position, q: Position) -> bool
     ensures numbers { result ≡ alike p q }
     ensures yes { result ≡ true → p ≡ q }
     ensures no { p ≡ q → result ≡ true }
 {
-    p.root.0 == q.root.0 && p.row.0 == q.row.0 && p.index == q.index
-}
-
-fn compare_indexes(i: usize, j: usize) -> Ordering
-    ensures { result ≡ numbers i j }
-{
-    if i < j {
-        return Ordering::Less;
-    }
-    if j < i {
-        Ordering::Greater
-    } else {
-        Ordering::Equal
-    }
+    p == q
 }
 
 fn compare_biased<S: Source>(s: &S, a: Position, b: Position) -> Ordering
     ensures { result ≡ by_runs (S.Source.doc s.now) a b }
 {
-    if a.row.0 == b.row.0 {
-        return compare_indexes(a.index, b.index);
-    }
-    if s.is_before(a.row, b.row) {
+    if a.row == b.row {
+        a.index.cmp(&b.index)
+    } else if s.is_before(a.row, b.row) {
         Ordering::Less
     } else {
         Ordering::Greater

@@ -55,20 +55,20 @@ module _ (all rest before now : List ℕ) (at : ℕ) (w : Wrote all rest at befo
             ∙ sym (append_assoc w.done bs (drop (at + length bs) before));
       }
 
--- a walk that has written the range f up to its rest t
-module _ (d : Document) (s : Sound d) (f t : Range) (at : ℕ) (before now piece : List ℕ) (k : Walked d t) (w : Wrote (bytes_in d f) (bytes_in d t) at before now) (r : length (bytes_in d f) ≤ length before) (e : piece ≡ bytes_of (front d t)) where
+-- a walk that has written all up to its rest t
+module _ (d : Document) (s : Sound d) (all : List ℕ) (t : Range) (at : ℕ) (before now piece : List ℕ) (k : Walked d t) (w : Wrote all (bytes_in d t) at before now) (r : length all ≤ length before) (e : piece ≡ bytes_of (front d t)) where
   -- there is room for the piece
   pub room_for : at + length piece ≤ length now
   room_for =
-      let a = wrote_room (bytes_in d f) (bytes_in d t) before now at w r in
+      let a = wrote_room all (bytes_in d t) before now at w r in
       let b = front_short d s t k in
       let z = ap length e in
       omega arith
 
   -- the piece goes into the rest of the buffer
   pub wrote_rest : (more : List (List ℕ)) (out : List ℕ) → text_of d t ≡ front d t ++ more → out ≡ piece ++ drop (length piece) (take (length now - at) (drop at now)) →
-      Wrote (bytes_in d f) (bytes_of more) (at + length piece) before (put_mid at (length now - at) now out)
+      Wrote all (bytes_of more) (at + length piece) before (put_mid at (length now - at) now out)
   wrote_rest more out p q =
-      wrote_more (bytes_in d f) (bytes_in d t) before now at w piece (bytes_of more) (put_mid at (length now - at) now out)
+      wrote_more all (bytes_in d t) before now at w piece (bytes_of more) (put_mid at (length now - at) now out)
       (ap bytes_of p ∙ bytes_append (front d t) more ∙ ap (λ l. l ++ bytes_of more) (sym e))
       (put_rest now piece out at (let z = room_for in omega arith) q)

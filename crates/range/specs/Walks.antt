@@ -4,7 +4,11 @@ use Rattle.std.specs.Borrow.{Bor}
 use Rattle.rows.specs.declared.refusal.Refusal.{Refusal}
 use Rattle.rows.specs.declared.refusal.Refusal.TheVariants.{Needed}
 use Rattle.source.specs.Runs.{Document, count_in}
-use Rattle.source.specs.Pieces.{bytes_of, Stripped}
+use Rattle.std.specs.Coded.{×_prop, le_prop}
+use mathlib.Core.HLevel.{⊥_prop}
+use Rattle.std.proofs.Props.{props}
+use Rattle.source.specs.Pieces.{bytes_of, Stripped, Within}
+use Rattle.position.specs.declared.position.Position.{Position}
 use Rattle.position.specs.Places.{Lawful, offset_in, offset, total, size_of}
 use Rattle.range.specs.declared.range.Range.{Range}
 use Rattle.range.specs.Texts.{between, text_of, bytes_in}
@@ -46,3 +50,19 @@ Tails d t (Some k) = Walked d k × (text_of d t ≡ front d t ++ text_of d k) ×
 abbrev pub Needs : Document → Range → List ℕ → Result ℕ Refusal → Type 0
 Needs d t strip (Ok n) = Stripped d strip × (n ≡ length (bytes_in d t))
 Needs d t strip (Err e) = (Stripped d strip → ⊥) × (e ≡ Needed 765)
+
+-- That a range is walked is shown in one way at most.
+within_prop : (i : ℕ) (o : Option ℕ) → IsProp (Within i o)
+within_prop i None = ⊥_prop
+within_prop i (Some n) = le_prop
+
+lawful_prop : (d : Document) (p : Position) → IsProp (Lawful d p)
+lawful_prop d p = ×_prop (Prim.hlevel props) (within_prop p.index (count_in d.runs p.row.0))
+
+pub walked_prop : (d : Document) (t : Range) → IsProp (Walked d t)
+walked_prop d t a b = λ i. record {
+  start = lawful_prop d t.start a.start b.start i;
+  end = lawful_prop d t.end a.end b.end i;
+  rows = le_prop a.rows b.rows i;
+  ordered = le_prop a.ordered b.ordered i;
+}

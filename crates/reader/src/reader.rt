@@ -12,6 +12,8 @@ use rows::refusal::Refusal;
 use source::source::Source;
 use unit::unit::Unit;
 
+// The strip and the buffer are lent for each call alone, one shared and one to write in: a struct of both
+// would be made for a call and taken apart in it.
 #[derive(Drop)]
 pub struct Reader<S> {
     source: S,

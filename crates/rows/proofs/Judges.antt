@@ -1,5 +1,6 @@
 -- Sound rows, and the one verdict on the tables.
-use Rattle.std.proofs.Common.{◌≡◌, ℕ, ◌+◌, ◌<◌, ◌⊎◌, length, Some, None, Option, sym, refl, ap, ◌∙◌, subst, inl, inr, ⊎_elim, arith}
+use Rattle.std.proofs.Common.{◌≡◌, ℕ, ◌+◌, ◌<◌, ◌⊎◌, length, Ok, Err, Result, sym, refl, ap, ◌∙◌, subst, inl, inr, ⊎_elim, arith}
+use Rattle.std.specs.Prelude.{⊤}
 use Rattle.std.proofs.lemmas.Bool.{cases_lt}
 use Rattle.rows.specs.declared.node.NodeId.{NodeId}
 use Rattle.rows.specs.declared.node.Tables.{Tables}
@@ -65,8 +66,8 @@ module _ (t : Tables) (root : ℕ) where
       (kinds e h)
 
   -- Of two verdicts that both fit, each is the other.
-  pub one_verdict : (o p : Option Refusal) → Verdict t root o → Verdict t root p → o ≡ p
-  one_verdict None None v w = refl
-  one_verdict None (Some f) v w = absurd (accepted f v w)
-  one_verdict (Some e) None v w = absurd (accepted e w v)
-  one_verdict (Some e) (Some f) v w = ap Some (one_refusal e f v w)
+  pub one_verdict : (o p : Result ⊤ Refusal) → Verdict t root o → Verdict t root p → o ≡ p
+  one_verdict (Ok done) (Ok done2) v w = refl
+  one_verdict (Ok done) (Err f) v w = absurd (accepted f v w)
+  one_verdict (Err e) (Ok done) v w = absurd (accepted e w v)
+  one_verdict (Err e) (Err f) v w = ap Err (one_refusal e f v w)

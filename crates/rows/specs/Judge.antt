@@ -1,5 +1,5 @@
 -- What judging asks of the tables, row by row, and what it answers.
-use Rattle.std.specs.Prelude.{◌≡◌, ℕ, ◌+◌, ◌<◌, ◌≤◌, ◌⊎◌, List, length, Some, None, Option, ◌≢◌}
+use Rattle.std.specs.Prelude.{◌≡◌, ℕ, ◌+◌, ◌<◌, ◌≤◌, ◌⊎◌, List, length, Ok, Err, Result, ⊤, ◌≢◌}
 use Rattle.rows.specs.declared.node.NodeId.{NodeId}
 use Rattle.rows.specs.declared.node.Part.{Part}
 use Rattle.rows.specs.declared.node.Row.{Row}
@@ -111,7 +111,7 @@ Refused t root Misplaced = ⊥
 Refused t root Beyond = ⊥
 Refused t root (Needed n) = ⊥
 
--- Nothing where the tables are well-formed, else the refusal.
-abbrev pub Verdict : Tables → ℕ → Option Refusal → Type 0
-Verdict t root None = WellFormed t root
-Verdict t root (Some e) = Refused t root e
+-- Well-formed tables are accepted, and any others get their refusal.
+abbrev pub Verdict : Tables → ℕ → Result ⊤ Refusal → Type 0
+Verdict t root (Ok done) = WellFormed t root
+Verdict t root (Err e) = Refused t root e

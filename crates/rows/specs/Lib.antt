@@ -1,4 +1,5 @@
 pub mod Refusals
 pub mod Rows
+pub mod Roles
 pub mod Filters
 pub mod Judge

@@ -5,9 +5,9 @@ ghost use Rattle.rows.specs.declared.node.Row.{Row};
 ghost use Rattle.rows.specs.Filters.{text_answer, field_answer};
 
 use crate::node::*;
-use crate::role;
+use crate::role::Role;
 
-#[derive(Clone, Copy)]
+#[derive(Clone, Copy, PartialEq, Eq, Debug)]
 pub enum FilterResult {
     Include,
     ExcludeNode,
@@ -30,7 +30,7 @@ impl Filter for TextFilter {
     ghost answer = { λ s r x. text_answer s.0.0 r x };
 
     fn filter(&self, id: NodeId, row: &Row) -> FilterResult {
-        if id.0 == self.0.0 || row.role == role::TEXT_RUN {
+        if id == self.0 || row.has_role(Role::TextRun) {
             FilterResult::Include
         } else {
             FilterResult::ExcludeNode
@@ -47,11 +47,11 @@ impl Filter for FieldFilter {
 
     fn filter(&self, _id: NodeId, row: &Row) -> FilterResult {
         if row.hidden {
-            return FilterResult::ExcludeSubtree;
-        }
-        match row.role {
-            role::LABEL..=role::TEXT_INPUT => FilterResult::Include,
-            _ => FilterResult::ExcludeNode,
+            FilterResult::ExcludeSubtree
+        } else if row.holds_text() {
+            FilterResult::Include
+        } else {
+            FilterResult::ExcludeNode
         }
     }
 }

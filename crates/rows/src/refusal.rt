@@ -4,7 +4,7 @@ ghost use Rattle.rows.specs.Refusals.{number_of, fault_of, needed_of};
 
 use crate::node::*;
 
-#[derive(Clone, Copy)]
+#[derive(Clone, Copy, PartialEq, Eq, Debug)]
 pub enum Refusal {
     BadTables,
     BadRow(NodeId),
@@ -46,11 +46,11 @@ impl Refusal {
         ensures { result ≡ fault_of self.now }
     {
         match *self {
-            Refusal::BadRow(row) => Some(row),
-            Refusal::BadRoot(row) => Some(row),
-            Refusal::BadRun(row) => Some(row),
-            Refusal::BadWords(row) => Some(row),
-            Refusal::BadLine(row) => Some(row),
+            Refusal::BadRow(row)
+            | Refusal::BadRoot(row)
+            | Refusal::BadRun(row)
+            | Refusal::BadWords(row)
+            | Refusal::BadLine(row) => Some(row),
             _ => None,
         }
     }

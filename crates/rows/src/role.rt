@@ -1,15 +1,46 @@
-// The roles that a row may have. A greater number is no role.
+// The roles that a row may have. A table has a number for each, and a greater number is no role.
+ghost use Rattle.std.specs.Prelude.{◌≡◌, ◌<◌, ◌≤◌, ◌↔◌, IsTrue};
+ghost use Rattle.rows.specs.Roles.{Decodes, HoldsText};
 
-pub const OTHER: u8 = 0;
+#[derive(Clone, Copy, PartialEq, Eq, Debug)]
+pub enum Role {
+    Other,
+    TextRun,
+    Label,
+    Document,
+    Terminal,
+    PasswordInput,
+    TextInput,
+}
 
-pub const TEXT_RUN: u8 = 1;
+// A number that stands for no role.
+#[derive(Clone, Copy, PartialEq, Eq, Debug)]
+pub struct UnknownRole(pub u8);
 
-pub const LABEL: u8 = 2;
+impl TryFrom<u8> for Role {
+    type Error = UnknownRole;
 
-pub const DOCUMENT: u8 = 3;
+    ghost try_from_gives = { Decodes };
 
-pub const TERMINAL: u8 = 4;
+    fn try_from(number: u8) -> Result<Role, UnknownRole> {
+        match number {
+            0 => Ok(Role::Other),
+            1 => Ok(Role::TextRun),
+            2 => Ok(Role::Label),
+            3 => Ok(Role::Document),
+            4 => Ok(Role::Terminal),
+            5 => Ok(Role::PasswordInput),
+            6 => Ok(Role::TextInput),
+            _ => Err(UnknownRole(number)),
+        }
+    }
+}
 
-pub const PASSWORD_INPUT: u8 = 5;
-
-pub const TEXT_INPUT: u8 = 6;
+impl Role {
+    // Whether rows of this role hold text of their own.
+    pub fn holds_text(self) -> bool
+        ensures { IsTrue result ↔ HoldsText self }
+    {
+        !matches!(self, Role::Other | Role::TextRun)
+    }
+}

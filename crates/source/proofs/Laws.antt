@@ -1,12 +1,12 @@
 -- Masking and unwording keep counts, rows, joins, marks and order; unwording keeps the characters and
 -- masking the words.
-use Rattle.std.proofs.Common.{◌≡◌, ℕ, ◌-◌, Bool, true, cond, eqb, List, [], ◌∷◌, length, take, drop, Some, Ok, Err, Result, sym, refl, ap, ◌∙◌, subst, ⊎_elim, Bor}
+use Rattle.std.proofs.Common.{◌≡◌, ℕ, Bool, true, cond, eqb, List, [], ◌∷◌, length, Some, sym, refl, ap, ◌∙◌, ⊎_elim}
 use Rattle.std.proofs.lemmas.Bool.{cases_Bool, cond-true, cond-false}
-use Rattle.source.specs.Runs.{Run, Document, count, row_id, first_row, last_row, asked, count_in, joined_in, breaks_in, head_row, next_in, previous_in, characters_in, words_in, is_in, before_in, word_from, word_before, first_from, last_below}
-use Rattle.rows.specs.declared.refusal.Refusal.{Refusal}
-use Rattle.rows.specs.declared.refusal.Refusal.TheVariants.{BadTables, BadRow, BadRoot, BadRun, BadWords, BadLine, AtEnd, AtStart, Misplaced, Beyond, Needed}
-use Rattle.source.specs.Pieces.{bullets, bytes_of, Within, Asked, NoPiece, Pieces}
-use Rattle.source.specs.Layers.{each, masked_run, unworded_run, unworded_doc}
+use Rattle.source.specs.Runs.{Run, Document, count, row_id, first_row, last_row, asked, count_in, joined_in, breaks_in, head_row, next_in, previous_in, characters_in, words_in, is_in, before_in}
+use Rattle.source.specs.Pieces.{bullets}
+use Rattle.source.specs.declared.layered.Layer.{Layer}
+use Rattle.source.specs.declared.layered.Layer.TheVariants.{Plain, Unworded, Masked}
+use Rattle.source.specs.Layers.{each, masked_run, unworded_run, doc_through}
 use Rattle.source.specs.Keeping.{bullets_length}
 
 -- Two choices by one test are alike where what they choose from is.
@@ -102,14 +102,8 @@ masked_before = keeps_before masked_run masked_named
 pub masked_characters : (xs : List Run) (r : ℕ) → characters_in (each masked_run xs) r ≡ bullets (length (characters_in xs r))
 masked_characters = keeps_characters masked_run masked_named (λ cs. bullets (length cs)) refl (λ x. refl)
 
-masked_words : (xs : List Run) (r : ℕ) → words_in (each masked_run xs) r ≡ words_in xs r
+pub masked_words : (xs : List Run) (r : ℕ) → words_in (each masked_run xs) r ≡ words_in xs r
 masked_words = keeps_words masked_run masked_named (λ x. refl)
-
-pub masked_from : (xs : List Run) (r i : ℕ) → word_from (each masked_run xs) r i ≡ word_from xs r i
-masked_from xs r i = ap (first_from i) (masked_words xs r)
-
-pub masked_below : (xs : List Run) (r i : ℕ) → word_before (each masked_run xs) r i ≡ word_before xs r i
-masked_below xs r i = ap (last_below i) (masked_words xs r)
 
 pub unworded_first : (xs : List Run) → first_row (each unworded_run xs) ≡ first_row xs
 unworded_first = keeps_first unworded_run unworded_named
@@ -145,31 +139,45 @@ unworded_words (x ∷ xs) r =
     ap (λ ws. cond (eqb x.row r) [] ws) (unworded_words xs r)
     ∙ ⊎_elim (λ q. cond-true (eqb x.row r) [] [] q) (λ q. cond-false (eqb x.row r) [] [] q) (cases_Bool (eqb x.row r))
 
--- What a piece is, it is without word starts.
-module _ (d : Document) (r i j : ℕ) (strip : List ℕ) where
-  unworded_asked : Asked d r i j → Asked (unworded_doc d) r i j
-  unworded_asked a = (a.0, subst (Within j) (sym (unworded_count d.runs r)) a.1)
+-- What masking and unwording both keep of the runs, a pile keeps, however much of it is read.
+module _ {B : Type 0} (f : List Run → B) (masks : (xs : List Run) → f (each masked_run xs) ≡ f xs) (unwords : (xs : List Run) → f (each unworded_run xs) ≡ f xs) where
+  piled : (l : Layer) (d : Document) → f (doc_through l d).runs ≡ f d.runs
+  piled Plain d = refl
+  piled Unworded d = unwords d.runs
+  piled Masked d = masks (each unworded_run d.runs) ∙ unwords d.runs
 
-  asked_unworded : Asked (unworded_doc d) r i j → Asked d r i j
-  asked_unworded a = (a.0, subst (Within j) (unworded_count d.runs r) a.1)
+pub layered_root : (l : Layer) (d : Document) → (doc_through l d).root ≡ d.root
+layered_root Plain d = refl
+layered_root Unworded d = refl
+layered_root Masked d = refl
 
-  unworded_refused : (e : Refusal) → NoPiece d r i j strip e → NoPiece (unworded_doc d) r i j strip e
-  unworded_refused BadTables h = h
-  unworded_refused (BadRow q) h = h
-  unworded_refused (BadRoot q) h = h
-  unworded_refused (BadRun q) h = h
-  unworded_refused (BadWords q) h = h
-  unworded_refused (BadLine q) h = h
-  unworded_refused AtEnd h = h
-  unworded_refused AtStart h = h
-  unworded_refused Misplaced h = λ a. h (asked_unworded a)
-  unworded_refused Beyond h = h
-  unworded_refused (Needed n) h = (unworded_asked h.0, h.1, h.2)
+pub layered_first : (l : Layer) (d : Document) → first_row (doc_through l d).runs ≡ first_row d.runs
+layered_first = piled first_row masked_first unworded_first
 
-  pub unworded_pieces : (o : Result (Bor (List ℕ)) Refusal) → Pieces d r i j strip o → Pieces (unworded_doc d) r i j strip o
-  unworded_pieces (Ok b) h = (
-    unworded_asked h.0,
-    h.1,
-    h.2 ∙ ap (λ cs. bytes_of (take (j - i) (drop i cs))) (sym (unworded_characters d.runs r)),
-  )
-  unworded_pieces (Err e) h = unworded_refused e h
+pub layered_last : (l : Layer) (d : Document) → last_row (doc_through l d).runs ≡ last_row d.runs
+layered_last = piled last_row masked_last unworded_last
+
+pub layered_next : (l : Layer) (d : Document) (r : ℕ) → next_in (doc_through l d).runs r ≡ next_in d.runs r
+layered_next l d r = piled (λ xs. next_in xs r) (λ xs. masked_next xs r) (λ xs. unworded_next xs r) l d
+
+pub layered_previous : (l : Layer) (d : Document) (r : ℕ) → previous_in (doc_through l d).runs r ≡ previous_in d.runs r
+layered_previous l d r = piled (λ xs. previous_in xs r) (λ xs. masked_previous xs r) (λ xs. unworded_previous xs r) l d
+
+pub layered_count : (l : Layer) (d : Document) (r : ℕ) → count_in (doc_through l d).runs r ≡ count_in d.runs r
+layered_count l d r = piled (λ xs. count_in xs r) (λ xs. masked_count xs r) (λ xs. unworded_count xs r) l d
+
+pub layered_joined : (l : Layer) (d : Document) (r : ℕ) → joined_in (doc_through l d).runs r ≡ joined_in d.runs r
+layered_joined l d r = piled (λ xs. joined_in xs r) (λ xs. masked_joined xs r) (λ xs. unworded_joined xs r) l d
+
+pub layered_breaks : (l : Layer) (d : Document) (r : ℕ) → breaks_in (doc_through l d).runs r ≡ breaks_in d.runs r
+layered_breaks l d r = piled (λ xs. breaks_in xs r) (λ xs. masked_breaks xs r) (λ xs. unworded_breaks xs r) l d
+
+pub layered_before : (l : Layer) (d : Document) (r q : ℕ) → before_in (doc_through l d).runs r q ≡ before_in d.runs r q
+layered_before l d r q = piled (λ xs. before_in xs r q) (λ xs. masked_before xs r q) (λ xs. unworded_before xs r q) l d
+
+-- What each layer's methods are proved by.
+pub ruleset unworded = (unworded_first, unworded_last, unworded_next, unworded_previous, unworded_count, unworded_joined, unworded_breaks, unworded_before, unworded_characters, unworded_words)
+
+pub ruleset masked = (masked_first, masked_last, masked_next, masked_previous, masked_count, masked_joined, masked_breaks, masked_before, masked_words)
+
+pub ruleset layered = (layered_root, layered_first, layered_last, layered_next, layered_previous, layered_count, layered_joined, layered_breaks, layered_before)

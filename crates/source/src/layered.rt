@@ -17,8 +17,9 @@ pub enum Layer {
     Masked,
 }
 
-// The whole pile, and how much of it is read: an enum could not hold a page, which has references and
-// facts about them.
+// The whole pile, and how much of it is read. An enum with a case for each layer would be no plainer: what no
+// layer changes is one line here, and would be a match there. A closure in the layer's place would have to be
+// called with three types.
 #[derive(Clone, Copy)]
 pub struct Layered<S> {
     stack: Masked<Unworded<S>>,
@@ -37,17 +38,14 @@ impl<S> Layered<S> {
     }
 }
 
+#[tactic(auto, using(crate::proofs::Laws::layered))]
 impl<S: Source> Source for Layered<S> {
     ghost doc = { λ l. layered_doc S.Source.doc l };
 
     ghost sound = { λ l. layered_sound S.Source.doc S.Source.sound l };
 
     fn root(&self) -> NodeId {
-        match self.layer {
-            Layer::Plain => self.stack.inner.inner.root(),
-            Layer::Unworded => self.stack.inner.root(),
-            Layer::Masked => self.stack.root(),
-        }
+        self.stack.inner.inner.root()
     }
 
     fn is_masked(&self) -> bool {
@@ -59,59 +57,31 @@ impl<S: Source> Source for Layered<S> {
     }
 
     fn first(&self) -> NodeId {
-        match self.layer {
-            Layer::Plain => self.stack.inner.inner.first(),
-            Layer::Unworded => self.stack.inner.first(),
-            Layer::Masked => self.stack.first(),
-        }
+        self.stack.inner.inner.first()
     }
 
     fn last(&self) -> NodeId {
-        match self.layer {
-            Layer::Plain => self.stack.inner.inner.last(),
-            Layer::Unworded => self.stack.inner.last(),
-            Layer::Masked => self.stack.last(),
-        }
+        self.stack.inner.inner.last()
     }
 
     fn next(&self, row: NodeId) -> Option<NodeId> {
-        match self.layer {
-            Layer::Plain => self.stack.inner.inner.next(row),
-            Layer::Unworded => self.stack.inner.next(row),
-            Layer::Masked => self.stack.next(row),
-        }
+        self.stack.inner.inner.next(row)
     }
 
     fn previous(&self, row: NodeId) -> Option<NodeId> {
-        match self.layer {
-            Layer::Plain => self.stack.inner.inner.previous(row),
-            Layer::Unworded => self.stack.inner.previous(row),
-            Layer::Masked => self.stack.previous(row),
-        }
+        self.stack.inner.inner.previous(row)
     }
 
     fn character_count(&self, row: NodeId) -> Option<usize> {
-        match self.layer {
-            Layer::Plain => self.stack.inner.inner.character_count(row),
-            Layer::Unworded => self.stack.inner.character_count(row),
-            Layer::Masked => self.stack.character_count(row),
-        }
+        self.stack.inner.inner.character_count(row)
     }
 
     fn is_joined(&self, row: NodeId) -> Option<bool> {
-        match self.layer {
-            Layer::Plain => self.stack.inner.inner.is_joined(row),
-            Layer::Unworded => self.stack.inner.is_joined(row),
-            Layer::Masked => self.stack.is_joined(row),
-        }
+        self.stack.inner.inner.is_joined(row)
     }
 
     fn has_break(&self, row: NodeId) -> Option<bool> {
-        match self.layer {
-            Layer::Plain => self.stack.inner.inner.has_break(row),
-            Layer::Unworded => self.stack.inner.has_break(row),
-            Layer::Masked => self.stack.has_break(row),
-        }
+        self.stack.inner.inner.has_break(row)
     }
 
     fn character_length(&self, row: NodeId, index: usize) -> Option<usize> {
@@ -139,11 +109,7 @@ impl<S: Source> Source for Layered<S> {
     }
 
     fn is_before(&self, one: NodeId, other: NodeId) -> bool {
-        match self.layer {
-            Layer::Plain => self.stack.inner.inner.is_before(one, other),
-            Layer::Unworded => self.stack.inner.is_before(one, other),
-            Layer::Masked => self.stack.is_before(one, other),
-        }
+        self.stack.inner.inner.is_before(one, other)
     }
 
     fn piece<'b>(

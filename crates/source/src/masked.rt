@@ -5,10 +5,11 @@ ghost use Rattle.source.specs.Layers.{masked_doc};
 ghost use Rattle.source.specs.Keeping.{masked_sound};
 
 use crate::source::Source;
-use crate::strip::{is_strip, part};
+use crate::strip::{BULLET, STRIP_LENGTH, is_strip, part};
 use rows::node::NodeId;
 use rows::refusal::Refusal;
 
+// Each method is written out, as in `Unworded`.
 #[derive(Clone, Copy)]
 pub struct Masked<S> {
     pub(crate) inner: S,
@@ -22,6 +23,7 @@ impl<S> Masked<S> {
     }
 }
 
+#[tactic(auto, using(crate::proofs::Laws::masked))]
 impl<S: Source> Source for Masked<S> {
     ghost doc = { λ m. masked_doc (S.Source.doc m.inner) };
 
@@ -65,7 +67,7 @@ impl<S: Source> Source for Masked<S> {
 
     fn character_length(&self, row: NodeId, index: usize) -> Option<usize> {
         let count = self.inner.character_count(row)?;
-        if index < count { Some(3) } else { None }
+        (index < count).then_some(BULLET.len())
     }
 
     fn word_start_from(&self, row: NodeId, index: usize) -> Option<usize> {
@@ -87,18 +89,13 @@ impl<S: Source> Source for Masked<S> {
         behind: usize,
         strip: &'b [u8],
     ) -> Result<&'b [u8], Refusal> {
-        let Some(count) = self.inner.character_count(row) else {
-            return Err(Refusal::Misplaced);
-        };
+        let count = self.inner.character_count(row).ok_or(Refusal::Misplaced)?;
         if first > behind || behind > count {
             return Err(Refusal::Misplaced);
         }
         if !is_strip(strip) {
-            return Err(Refusal::Needed(765));
+            return Err(Refusal::Needed(STRIP_LENGTH));
         }
-        match part(strip, strip, true, 0, 3 * (behind - first)) {
-            Some(bullets) => Ok(bullets),
-            None => Err(Refusal::Misplaced),
-        }
+        part(strip, strip, true, 0, BULLET.len() * (behind - first)).ok_or(Refusal::Misplaced)
     }
 }

@@ -1,30 +1,25 @@
 // The caller's strip of bullets, and parts of it or of a text.
-ghost use Rattle.std.specs.Prelude.{◌≡◌, if◌then◌else◌, Decides};
+ghost use Rattle.std.specs.Prelude.{◌≡◌, if◌then◌else◌, ◌↔◌, IsTrue};
 ghost use Rattle.source.specs.Pieces.{full_strip};
 ghost use Rattle.source.specs.Strips.{PartOf};
 
+// The bullet, U+2022, in UTF-8.
+pub(crate) const BULLET: [u8; 3] = [0xE2, 0x80, 0xA2];
+
+// The strip: as many bullets as a run may have characters.
+const STRIP: [[u8; 3]; 255] = [BULLET; 255];
+
+pub(crate) const STRIP_LENGTH: usize = STRIP.len() * BULLET.len();
+
 // Whether the bytes are 255 bullets, no more and no fewer.
 pub fn is_strip(strip: &[u8]) -> bool
-    ensures { Decides result (strip.now ≡ full_strip) }
+    ensures { IsTrue result ↔ (strip.now ≡ full_strip) }
 {
-    if strip.len() != 765 {
-        return false;
-    }
-    for i in 0..255 {
-        if strip[3 * i] != 0xE2 {
-            return false;
-        }
-        if strip[3 * i + 1] != 0x80 {
-            return false;
-        }
-        if strip[3 * i + 2] != 0xA2 {
-            return false;
-        }
-    }
-    true
+    strip == STRIP.as_flattened()
 }
 
-// A part of the strip when masked, else of the text; nothing where there is no such part.
+// A part of the strip when masked, else of the text; nothing where there is no such part. By
+// docs/DECISIONS.md it is one function over two lent slices, by the flag.
 pub fn part<'b>(
     text: &'b [u8],
     strip: &'b [u8],
@@ -35,8 +30,5 @@ pub fn part<'b>(
     ensures { PartOf (if masked then strip.now else text.now) from to result }
 {
     let whole = if masked { strip } else { text };
-    if from > to || to > whole.len() {
-        return None;
-    }
-    Some(&whole[from..to])
+    whole.get(from..to)
 }

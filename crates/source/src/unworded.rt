@@ -7,6 +7,8 @@ use crate::source::Source;
 use rows::node::NodeId;
 use rows::refusal::Refusal;
 
+// Each method is written out: a trait that gave the ones that pass a call on would be as long, and would
+// have to be told for each layer which ones it changes.
 #[derive(Clone, Copy)]
 pub struct Unworded<S> {
     pub(crate) inner: S,
@@ -20,6 +22,7 @@ impl<S> Unworded<S> {
     }
 }
 
+#[tactic(auto, using(crate::proofs::Laws::unworded))]
 impl<S: Source> Source for Unworded<S> {
     ghost doc = { λ u. unworded_doc (S.Source.doc u.inner) };
 

@@ -1,5 +1,6 @@
 -- A run's word starts: a number is among them exactly when it is the first that is not below it.
-use Rattle.std.proofs.Common.{◌≡◌, ℕ, suc, ◌<◌, ◌≤◌, Bool, true, false, ◌||◌, eqb, ltb, List, [], ◌∷◌, Some, None, Option, sym, refl, ap, ◌∙◌, subst, ⊎_elim, arith}
+use Rattle.std.specs.Option.{option_eq}
+use Rattle.std.proofs.Common.{◌≡◌, ℕ, suc, ◌<◌, ◌≤◌, true, false, ◌||◌, eqb, ltb, List, [], ◌∷◌, Some, Option, sym, refl, ap, ◌∙◌, subst, ⊎_elim, arith}
 use Rattle.std.proofs.lemmas.Bool.{both_ways, ltb-true, ltb-false, eq-eqb, ne_eqb, cases_Bool, cases_lt, cond-true, cond-false, or_from, or_left}
 use Rattle.source.specs.Runs.{Run, SoundRun, count, Every, Rising, count_in, words_in, first_from}
 use Rattle.starts.specs.Starts.{among}
@@ -17,11 +18,6 @@ rising_of (x ∷ xs) r n s c =
     (rising_of xs r n s.1 (c ∙ cond-false (eqb x.row r) (Some (count x)) (count_in xs r) q)))
     (cases_Bool (eqb x.row r))
 
--- the index found is the one asked from
-abbrev pub at_some : ℕ → Option ℕ → Bool
-at_some i None = false
-at_some i (Some w) = eqb w i
-
 -- none of a rising list's numbers is below its bound
 pub under : (low n : ℕ) (ws : List ℕ) (k : ℕ) → Rising low n ws → k < low → among k ws ≡ false
 under low n [] k r h = refl
@@ -33,8 +29,8 @@ pub above : (low n : ℕ) (ws : List ℕ) (k : ℕ) → Rising low n ws → amon
 above low n ws k r m = ⊎_elim (λ h. absurd (both_ways (among k ws) (under low n ws k r h) m)) (λ h. h) (cases_lt k low)
 
 -- a number is in a rising list exactly when it is the first that is not below it
-pub among_first : (low n i : ℕ) (ws : List ℕ) → Rising low n ws → (o : Option ℕ) → o ≡ first_from i ws → among i ws ≡ at_some i o
-among_first low n i [] r o e = ap (at_some i) (sym e)
+pub among_first : (low n i : ℕ) (ws : List ℕ) → Rising low n ws → (o : Option ℕ) → o ≡ first_from i ws → among i ws ≡ option_eq eqb o (Some i)
+among_first low n i [] r o e = ap (λ m. option_eq eqb m (Some i)) (sym e)
 among_first low n i (w ∷ ws) r o e =
     ⊎_elim
     (λ q.
@@ -45,7 +41,7 @@ among_first low n i (w ∷ ws) r o e =
     let h = ltb-false w i q in
     let k = e ∙ cond-false (ltb w i) (first_from i ws) (Some w) q in
     ⊎_elim
-    (λ l. or_from (eqb i w) (among i ws) (ne_eqb i w (omega arith)) (under (suc w) n ws i r.2 (omega arith)) ∙ sym (ap (at_some i) k ∙ ne_eqb w i (omega arith)))
-    (λ l. or_left (eqb i w) (among i ws) (eq-eqb i w (omega arith)) ∙ sym (ap (at_some i) k ∙ eq-eqb w i (omega arith)))
+    (λ l. or_from (eqb i w) (among i ws) (ne_eqb i w (omega arith)) (under (suc w) n ws i r.2 (omega arith)) ∙ sym (ap (λ m. option_eq eqb m (Some i)) k ∙ ne_eqb w i (omega arith)))
+    (λ l. or_left (eqb i w) (among i ws) (eq-eqb i w (omega arith)) ∙ sym (ap (λ m. option_eq eqb m (Some i)) k ∙ eq-eqb w i (omega arith)))
     (cases_lt i w))
     (cases_Bool (ltb w i))

@@ -14,49 +14,35 @@ use source::source::Source;
 pub fn joins<S: Source>(s: &S, row: NodeId) -> bool
     ensures { result ≡ joins (S.Source.doc s.now).runs row.0 }
 {
-    match s.is_joined(row) {
-        Some(joined) => joined,
-        None => false,
-    }
+    s.is_joined(row).unwrap_or(false)
 }
 
 // Whether the run has the break mark.
 fn breaks<S: Source>(s: &S, row: NodeId) -> bool
     ensures { result ≡ breaks (S.Source.doc s.now).runs row.0 }
 {
-    match s.has_break(row) {
-        Some(marked) => marked,
-        None => false,
-    }
+    s.has_break(row).unwrap_or(false)
 }
 
 // Whether no run before it is joined to this run.
 pub fn opens_line<S: Source>(s: &S, row: NodeId) -> bool
     ensures { result ≡ opens_line (S.Source.doc s.now).runs row.0 }
 {
-    match s.previous(row) {
-        None => true,
-        Some(before) => !joins(s, before),
-    }
+    s.previous(row).is_none_or(|before| !joins(s, before))
 }
 
 // Whether the run opens a line and the run before it has the break mark; the first run does too.
 pub fn opens_paragraph<S: Source>(s: &S, row: NodeId) -> bool
     ensures { result ≡ opens_paragraph (S.Source.doc s.now).runs row.0 }
 {
-    match s.previous(row) {
-        None => true,
-        Some(before) => !joins(s, before) && breaks(s, before),
-    }
+    s.previous(row)
+        .is_none_or(|before| !joins(s, before) && breaks(s, before))
 }
 
 fn at_run_end<S: Source>(s: &S, p: Position) -> bool
     ensures { result ≡ run_end (S.Source.doc s.now) p }
 {
-    match s.character_count(p.row) {
-        Some(n) => p.index == n,
-        None => false,
-    }
+    s.character_count(p.row) == Some(p.index)
 }
 
 // The judgements of a position that is already known to be one.
@@ -131,11 +117,5 @@ pub fn is_word_start<S: Source>(s: &S, p: Position) -> Result<bool, Refusal>
     ensures { Answers (Lawful (S.Source.doc s.now) p) (λ b. b ≡ starts_word (S.Source.doc s.now) p) result }
 {
     let _ = biased_to_start(s, p)?;
-    if starts_paragraph(s, p) {
-        return Ok(true);
-    }
-    match s.word_start_from(p.row, p.index) {
-        Some(start) => Ok(start == p.index),
-        None => Ok(false),
-    }
+    Ok(starts_paragraph(s, p) || s.word_start_from(p.row, p.index) == Some(p.index))
 }

@@ -1,7 +1,11 @@
 -- Index paths compared.
-use Rattle.std.proofs.Common.{◌≡◌, ℕ, zero, suc, ◌+◌, ◌<◌, ◌≤◌, Bool, true, false, cond, eqb, ltb, ◌⊎◌, List, [], ◌∷◌, ◌++◌, length, get_or, drop, Decides, sym, refl, ap, ◌∙◌, subst, inl, inr, ⊎_elim, append_assoc, arith}
-use Rattle.std.proofs.lemmas.List.{drop_all, drop_more}
-use Rattle.std.proofs.lemmas.Bool.{cond-true, cond-false, cases_Bool, ltb-true, ltb-false, lt-ltb, le-ltb, eq-eqb, ne_eqb, eqb-true, false≢true}
+use Rattle.std.proofs.Common.{◌≡◌, ℕ, zero, suc, ◌<◌, ◌≤◌, Bool, ◌⊎◌, List, [], ◌∷◌, ◌++◌, length, Some, Option, Decides, sym, refl, ap, ◌∙◌, subst, inl, inr, ⊎_elim, append_assoc, arith}
+use Rattle.std.specs.declared.cmp.Ordering.{Ordering}
+use Rattle.std.specs.declared.cmp.Ordering.TheVariants.{Less as Below, Equal, Greater}
+use Rattle.std.specs.Ordering.{nat_cmp, is_lt, is_some_and, partial_lt, partial_ordering_then, MatchOrdering}
+use Rattle.std.specs.Cmp.{ranks}
+use Rattle.std.specs.Cmp.Lexicographic.{slice_partial_cmp}
+use Rattle.rows.proofs.Tests.{refuse}
 use Rattle.rows.specs.declared.node.NodeId.{NodeId}
 use Rattle.rows.specs.declared.node.Row.{Row}
 use Rattle.rows.specs.declared.filters.FilterResult.{FilterResult}
@@ -9,76 +13,24 @@ use Rattle.tree.specs.declared.way.Way.TheVariants.{Forward}
 use Rattle.rows.specs.Rows.{par, Well}
 use Rattle.tree.specs.Subtrees.{Steps, path}
 use Rattle.tree.specs.Walk.{listed, Listed}
-use Rattle.tree.specs.Order.{Less, lessb, Before, Ahead, Apart}
+use Rattle.tree.specs.Order.{Less, Before, Ahead, Apart}
 use Rattle.tree.proofs.Rows.{above}
 use Rattle.tree.proofs.Lists.{split, found_in, stands, passed_under}
 use Rattle.tree.proofs.Numbers.{few_apart}
 use Rattle.tree.proofs.Orders.{in_order}
 
-module _ (xs ys : List ℕ) (i : ℕ) where
-  here : i < length xs → i < length ys → lessb (drop i xs) (drop i ys) ≡ cond (ltb (get_or xs i 0) (get_or ys i 0)) true (cond (eqb (get_or xs i 0) (get_or ys i 0)) (lessb (drop (i + 1) xs) (drop (i + 1) ys)) false)
-  here h k = let a = drop_more xs i 0 h in let b = drop_more ys i 0 k in λ t. lessb (a t) (b t)
+-- std's order of lists, a place further on
+less_step : (x y : ℕ) (xs ys : List ℕ) (o : Ordering) → MatchOrdering o (x < y) (x ≡ y) (y < x) → (p : Option Ordering) → Decides (is_some_and is_lt p) (Less xs ys) → Decides (is_some_and is_lt (partial_ordering_then (Some o) p)) (Less (x ∷ xs) (y ∷ ys))
+less_step x y xs ys Below h p d = (λ _. inl h, λ _. refl)
+less_step x y xs ys Equal h p d = (λ e. inr (h, d.0 e), λ l. ⊎_elim (λ m. absurd (omega arith)) (λ m. d.1 m.1) l)
+less_step x y xs ys Greater h p d = refuse (λ l. ⊎_elim (λ m. omega arith) (λ m. let q = m.0 in omega arith) l)
 
-  pub less_past : i < length xs → length ys ≤ i → lessb xs ys ≡ lessb (drop i xs) (drop i ys) → false ≡ lessb xs ys
-  less_past h k e = let a = drop_more xs i 0 h in let b = drop_all i ys k in sym (e ∙ (λ t. lessb (a t) (b t)))
-
-  pub less_yes : i < length xs → i < length ys → get_or xs i 0 < get_or ys i 0 → lessb xs ys ≡ lessb (drop i xs) (drop i ys) → true ≡ lessb xs ys
-  less_yes h k l e = sym (e ∙ here h k ∙ cond-true (ltb (get_or xs i 0) (get_or ys i 0)) true (cond (eqb (get_or xs i 0) (get_or ys i 0)) (lessb (drop (i + 1) xs) (drop (i + 1) ys)) false) (lt-ltb (get_or xs i 0) (get_or ys i 0) l))
-
-  pub less_no : i < length xs → i < length ys → get_or ys i 0 < get_or xs i 0 → lessb xs ys ≡ lessb (drop i xs) (drop i ys) → false ≡ lessb xs ys
-  less_no h k l e =
-      sym (e ∙ here h k
-      ∙ cond-false (ltb (get_or xs i 0) (get_or ys i 0)) true (cond (eqb (get_or xs i 0) (get_or ys i 0)) (lessb (drop (i + 1) xs) (drop (i + 1) ys)) false) (le-ltb (get_or xs i 0) (get_or ys i 0) (omega arith))
-      ∙ cond-false (eqb (get_or xs i 0) (get_or ys i 0)) (lessb (drop (i + 1) xs) (drop (i + 1) ys)) false (ne_eqb (get_or xs i 0) (get_or ys i 0) (λ q. omega arith)))
-
-  pub less_more : i < length xs → i < length ys → get_or ys i 0 ≤ get_or xs i 0 → get_or xs i 0 ≤ get_or ys i 0 → lessb xs ys ≡ lessb (drop i xs) (drop i ys) → lessb xs ys ≡ lessb (drop (i + 1) xs) (drop (i + 1) ys)
-  less_more h k l m e =
-      e ∙ here h k
-      ∙ cond-false (ltb (get_or xs i 0) (get_or ys i 0)) true (cond (eqb (get_or xs i 0) (get_or ys i 0)) (lessb (drop (i + 1) xs) (drop (i + 1) ys)) false) (le-ltb (get_or xs i 0) (get_or ys i 0) l)
-      ∙ cond-true (eqb (get_or xs i 0) (get_or ys i 0)) (lessb (drop (i + 1) xs) (drop (i + 1) ys)) false (eq-eqb (get_or xs i 0) (get_or ys i 0) (omega arith))
-
-  pub less_end : i ≡ length xs → i ≤ length ys → lessb xs ys ≡ lessb (drop i xs) (drop i ys) → ltb (length xs) (length ys) ≡ lessb xs ys
-  less_end h k e =
-      let a : drop i xs ≡ [] = drop_all i xs (omega arith) in
-      ⊎_elim
-      (λ q.
-      let l = ltb-true (length xs) (length ys) q in
-      let b = drop_more ys i 0 (omega arith) in
-      q ∙ sym (e ∙ (λ t. lessb (a t) (b t))))
-      (λ q.
-      let l = ltb-false (length xs) (length ys) q in
-      let b : drop i ys ≡ [] = drop_all i ys (omega arith) in
-      q ∙ sym (e ∙ (λ t. lessb (a t) (b t))))
-      (cases_Bool (ltb (length xs) (length ys)))
-
-less_from : (xs ys : List ℕ) → lessb xs ys ≡ true → Less xs ys
-less_from [] [] e = absurd (false≢true e)
-less_from [] (y ∷ ys) e = tt
-less_from (x ∷ xs) [] e = absurd (false≢true e)
-less_from (x ∷ xs) (y ∷ ys) e =
-    ⊎_elim
-    (λ q. inl (ltb-true x y q))
-    (λ q.
-    let z = sym (cond-false (ltb x y) true (cond (eqb x y) (lessb xs ys) false) q) ∙ e in
-    ⊎_elim
-    (λ r. inr (eqb-true x y r, less_from xs ys (sym (cond-true (eqb x y) (lessb xs ys) false r) ∙ z)))
-    (λ r. absurd (false≢true (sym (cond-false (eqb x y) (lessb xs ys) false r) ∙ z)))
-    (cases_Bool (eqb x y)))
-    (cases_Bool (ltb x y))
-
-less_to : (xs ys : List ℕ) → Less xs ys → lessb xs ys ≡ true
-less_to [] [] h = absurd h
-less_to [] (y ∷ ys) h = refl
-less_to (x ∷ xs) [] h = absurd h
-less_to (x ∷ xs) (y ∷ ys) h =
-    ⊎_elim
-    (λ l. cond-true (ltb x y) true (cond (eqb x y) (lessb xs ys) false) (lt-ltb x y l))
-    (λ t.
-    let q = t.0 in
-    cond-false (ltb x y) true (cond (eqb x y) (lessb xs ys) false) (le-ltb x y (omega arith))
-    ∙ cond-true (eqb x y) (lessb xs ys) false (eq-eqb x y q)
-    ∙ less_to xs ys t.1)
-    h
+-- the order of index paths is std's order of lists
+less_decides : (xs ys : List ℕ) → Decides (partial_lt (slice_partial_cmp (λ x y. Some (nat_cmp x y))) xs ys) (Less xs ys)
+less_decides [] [] = refuse (λ h. h)
+less_decides [] (y ∷ ys) = (λ _. tt, λ _. refl)
+less_decides (x ∷ xs) [] = refuse (λ h. h)
+less_decides (x ∷ xs) (y ∷ ys) = less_step x y xs ys (nat_cmp x y) (ranks x y) (slice_partial_cmp (λ x y. Some (nat_cmp x y)) xs ys) (less_decides xs ys)
 
 -- no path comes before itself, nor before one that comes before it
 pub less_self : (xs : List ℕ) → Less xs xs → ⊥
@@ -118,8 +70,10 @@ module _ {rs : List Row} {cs : List NodeId} (w : Well rs cs) where
       let f = one_path base n j y d b in
       subst (λ l. Less (path rs k x) (path rs l y)) f (subst (λ l. Less (path rs l x) (path rs n y)) e h)
 
-  pub before_is : (base x y k j : ℕ) → Steps rs k base x → Steps rs j base y → (b : Bool) → b ≡ lessb (path rs k x) (path rs j y) → Decides b (Before rs base x y)
-  before_is base x y k j sx sy b q = (λ e. (k, j, sx, sy, less_from (path rs k x) (path rs j y) (sym q ∙ e)), λ t. q ∙ less_to (path rs k x) (path rs j y) (same_paths base k j t.0 t.1 x y sx sy t.2 t.3 t.4))
+  pub before_is : (base x y k j : ℕ) → Steps rs k base x → Steps rs j base y → (b : Bool) → b ≡ partial_lt (slice_partial_cmp (λ x y. Some (nat_cmp x y))) (path rs k x) (path rs j y) → Decides b (Before rs base x y)
+  before_is base x y k j sx sy b q =
+      let d = less_decides (path rs k x) (path rs j y) in
+      (λ e. (k, j, sx, sy, d.0 (sym q ∙ e)), λ t. q ∙ d.1 (same_paths base k j t.0 t.1 x y sx sy t.2 t.3 t.4))
 
   module _ (a : ℕ → FilterResult) (base x y k j : ℕ) (h : base < length rs) (lx : Listed rs a base x) (ly : Listed rs a base y) (sx : Steps rs k base x) (sy : Steps rs j base y) where
     to_less : Ahead (listed rs cs a base) x y → Less (path rs k x) (path rs j y)

@@ -7,11 +7,11 @@ use Rattle.rows.specs.declared.node.Row.{Row}
 use Rattle.rows.specs.declared.filters.FilterResult.{FilterResult}
 use Rattle.rows.specs.declared.filters.FilterResult.TheVariants.{Include, ExcludeNode, ExcludeSubtree}
 use Rattle.rows.specs.Rows.{par, Well}
-use Rattle.tree.specs.Subtrees.{kids, offspring, side, rest, build, Steps, Under}
+use Rattle.tree.specs.Subtrees.{turned, kids, offspring, side, rest, build, Steps, Under}
 use Rattle.tree.specs.declared.way.Way.{Way}
 use Rattle.tree.specs.declared.way.Way.TheVariants.{Forward, Backward}
 use Rattle.rows.specs.declared.node.NodeId.{NodeId}
-use Rattle.tree.specs.Walk.{by, shown, along, listed, head, ahead, Child, Over, Passed, On, Listed, Follows, Precedes}
+use Rattle.tree.specs.Walk.{by, shown, along, listed, head, ahead, Child, Over, Passed, On, Listed, Follows, Precedes, Beside}
 use Rattle.tree.proofs.Rows.{Chain, chain, joined_append, around, rest_is, above, into_base}
 use Rattle.tree.proofs.Walks.{shown_is}
 
@@ -219,3 +219,12 @@ module _ {rs : List Row} {cs : List NodeId} (w : Well rs cs) (a : ℕ → Filter
         stands = (t.0, rest rs cs Forward (shown rs cs Forward a) x base x, t.1);
         back = λ pre post e. is ∙ ap head (sym (over.same (shown rs cs Backward a))) ∙ ap head (sym (stands w Backward a base h (reverse post) x (reverse pre) (along_back base ∙ ap reverse e ∙ mirrored pre x post)).1);
       }
+
+  -- Both ways: the list as a walk goes along it, and what a walk comes to after a listed row.
+  pub along_is : (d : Way) (base : ℕ) → along rs cs d a base ≡ turned d (listed rs cs a base)
+  along_is Forward base = refl
+  along_is Backward base = along_back base
+
+  pub beside_in : (d : Way) (base x : ℕ) (o r : Option NodeId) → base < length rs → Listed rs a base x → Over rs cs d base x o → r ≡ head (ahead rs cs d (shown rs cs d a) base o) → Beside d (listed rs cs a base) x r
+  beside_in Forward base x o r h l over is = follows base x o r h l over is
+  beside_in Backward base x o r h l over is = precedes base x o r h l over is

@@ -1,5 +1,5 @@
 -- The tree that judging gives: that of the tables, or the blank one.
-use Rattle.std.specs.Prelude.{◌≡◌, false, [], ◌∷◌, Some, None, Option}
+use Rattle.std.specs.Prelude.{◌≡◌, false, [], ◌∷◌, Some, None, Ok, Err, Option, Result}
 use Rattle.rows.specs.declared.node.NodeId.{NodeId}
 use Rattle.rows.specs.declared.node.Row.{Row}
 use Rattle.rows.specs.declared.node.Tables.{Tables}
@@ -20,6 +20,11 @@ Blank tree = (rows_of tree ≡ blank_row ∷ []) × (entries_of tree ≡ []) × 
 -- The tree has the tables' rows and child entries, and the root.
 abbrev pub TreeOf : Tables → NodeId → Tree → Type 0
 TreeOf t root tree = (rows_of tree ≡ rows_in t) × (entries_of tree ≡ entries_in t) × (tree.root ≡ root)
+
+-- Well-formed tables give their tree, and any others their refusal.
+abbrev pub Tried : Tables → NodeId → Result Tree Refusal → Type 0
+Tried t root (Ok tree) = WellFormed t root.0 × TreeOf t root tree
+Tried t root (Err e) = Refused t root.0 e
 
 -- Well-formed tables give their tree, and any others their refusal and the blank tree.
 abbrev pub Judged : Tables → NodeId → Tree → Option Refusal → Type 0

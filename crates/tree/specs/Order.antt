@@ -1,5 +1,5 @@
 -- Document order, by index paths.
-use Rattle.std.specs.Prelude.{◌≡◌, ℕ, ◌<◌, Bool, true, false, cond, ◌⊎◌, List, [], ◌∷◌, ◌++◌, ◌==◌, nat_lt}
+use Rattle.std.specs.Prelude.{◌≡◌, ℕ, ◌<◌, ◌⊎◌, List, [], ◌∷◌, ◌++◌}
 use Rattle.rows.specs.declared.node.Row.{Row}
 use Rattle.tree.specs.Subtrees.{Steps, path}
 
@@ -9,13 +9,6 @@ Less [] [] = ⊥
 Less [] (y ∷ ys) = Unit {0}
 Less (x ∷ xs) [] = ⊥
 Less (x ∷ xs) (y ∷ ys) = (x < y) ⊎ ((x ≡ y) × Less xs ys)
-
--- The same as a test.
-abbrev pub lessb : List ℕ → List ℕ → Bool
-lessb [] [] = false
-lessb [] (y ∷ ys) = true
-lessb (x ∷ xs) [] = false
-lessb (x ∷ xs) (y ∷ ys) = cond (nat_lt x y) true (cond (x == y) (lessb xs ys) false)
 
 -- x comes before y in document order, by their paths from base.
 abbrev pub Before : List Row → ℕ → ℕ → ℕ → Type 0

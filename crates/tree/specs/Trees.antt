@@ -1,5 +1,5 @@
 -- What the calls on a judged tree answer.
-use Rattle.std.specs.Prelude.{◌≡◌, ℕ, ◌<◌, ◌≤◌, Bool, List, ◌∷◌, ◌++◌, reverse, length, take, drop, Some, None, Ok, Err, Decides, Option, Result}
+use Rattle.std.specs.Prelude.{◌≡◌, ℕ, ◌<◌, ◌≤◌, Bool, List, ◌∷◌, ◌++◌, length, take, drop, Some, None, Ok, Err, Option, Result, ◌↔◌, IsTrue}
 use Rattle.tree.specs.declared.tree.Tree.{Tree}
 use Rattle.rows.specs.declared.node.Row.{Row}
 use Rattle.rows.specs.declared.node.NodeId.{NodeId}
@@ -8,9 +8,11 @@ use Rattle.rows.specs.declared.filters.FilterResult.TheVariants.{Include}
 use Rattle.rows.specs.declared.refusal.Refusal.{Refusal}
 use Rattle.rows.specs.declared.refusal.Refusal.TheVariants.{Misplaced}
 use Rattle.rows.specs.Rows.{row, par, index}
-use Rattle.tree.specs.Subtrees.{Steps, path}
+use Rattle.tree.specs.declared.way.Way.{Way}
+use Rattle.tree.specs.declared.way.Way.TheVariants.{Forward, Backward}
+use Rattle.tree.specs.Subtrees.{Steps, path, turned}
 use Rattle.tree.specs.Order.{Before, InOrder, Apart}
-use Rattle.tree.specs.Walk.{answers, listed, Listed, head, Follows, Precedes}
+use Rattle.tree.specs.Walk.{answers, listed, Listed, head, Beside}
 
 -- The rows of a tree.
 abbrev pub rows_of : Tree → List Row
@@ -48,25 +50,31 @@ Included t q base = IsRow t base × (answers q (rows_of t) base.0 ≡ Include)
 abbrev pub Walked : Tree → (ℕ → Row → FilterResult) → NodeId → NodeId → Type 0
 Walked t q base r = Included t q base × ListedOn t q base r
 
+-- The row that a walk comes to first in the list under base, or nothing where the list is empty.
+abbrev pub EdgeOn : Way → Tree → (ℕ → Row → FilterResult) → NodeId → Result (Option NodeId) Refusal → Type 0
+EdgeOn d t q base (Ok o) = Included t q base × (o ≡ head (turned d (list_on t q base)))
+EdgeOn d t q base (Err e) = (e ≡ Misplaced) × (Included t q base → ⊥)
+
 -- The first row of the list under base, or nothing where the list is empty.
 abbrev pub FirstOn : Tree → (ℕ → Row → FilterResult) → NodeId → Result (Option NodeId) Refusal → Type 0
-FirstOn t q base (Ok o) = Included t q base × (o ≡ head (list_on t q base))
-FirstOn t q base (Err e) = (e ≡ Misplaced) × (Included t q base → ⊥)
+FirstOn = EdgeOn Forward
 
 -- The last row of the list under base, or nothing where the list is empty.
 abbrev pub LastOn : Tree → (ℕ → Row → FilterResult) → NodeId → Result (Option NodeId) Refusal → Type 0
-LastOn t q base (Ok o) = Included t q base × (o ≡ head (reverse (list_on t q base)))
-LastOn t q base (Err e) = (e ≡ Misplaced) × (Included t q base → ⊥)
+LastOn = EdgeOn Backward
+
+-- The row that a walk comes to after r in the list under base, or nothing past the list's end that way.
+abbrev pub BesideOn : Way → Tree → (ℕ → Row → FilterResult) → NodeId → NodeId → Result (Option NodeId) Refusal → Type 0
+BesideOn d t q base r (Ok o) = Walked t q base r × Beside d (list_on t q base) r.0 o
+BesideOn d t q base r (Err e) = (e ≡ Misplaced) × (Walked t q base r → ⊥)
 
 -- The row that follows r in the list under base, or nothing past its end.
 abbrev pub NextOn : Tree → (ℕ → Row → FilterResult) → NodeId → NodeId → Result (Option NodeId) Refusal → Type 0
-NextOn t q base r (Ok o) = Walked t q base r × Follows (list_on t q base) r.0 o
-NextOn t q base r (Err e) = (e ≡ Misplaced) × (Walked t q base r → ⊥)
+NextOn = BesideOn Forward
 
 -- The row that precedes r in the list under base, or nothing past its start.
 abbrev pub PreviousOn : Tree → (ℕ → Row → FilterResult) → NodeId → NodeId → Result (Option NodeId) Refusal → Type 0
-PreviousOn t q base r (Ok o) = Walked t q base r × Precedes (list_on t q base) r.0 o
-PreviousOn t q base r (Err e) = (e ≡ Misplaced) × (Walked t q base r → ⊥)
+PreviousOn = BesideOn Backward
 
 -- What the table holds for a row.
 abbrev pub RowOn : Tree → NodeId → Option Row → Type 0
@@ -96,5 +104,5 @@ PathOn t base r old new (Err e) = (e ≡ Misplaced) × (Above t base r → ⊥) 
 
 -- Whether one row comes before another in document order.
 abbrev pub BeforeOn : Tree → NodeId → NodeId → NodeId → Result Bool Refusal → Type 0
-BeforeOn t base x y (Ok b) = Above t base x × Above t base y × Decides b (Before (rows_of t) base.0 x.0 y.0)
+BeforeOn t base x y (Ok b) = Above t base x × Above t base y × (IsTrue b ↔ Before (rows_of t) base.0 x.0 y.0)
 BeforeOn t base x y (Err e) = (e ≡ Misplaced) × ((Above t base x × Above t base y) → ⊥)

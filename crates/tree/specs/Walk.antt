@@ -8,7 +8,7 @@ use Rattle.rows.specs.declared.filters.FilterResult.TheVariants.{Include, Exclud
 use Rattle.rows.specs.Rows.{row, par}
 use Rattle.tree.specs.Subtrees.{offspring, side, rest, build, Under}
 use Rattle.tree.specs.declared.way.Way.{Way}
-use Rattle.tree.specs.declared.way.Way.TheVariants.{Forward}
+use Rattle.tree.specs.declared.way.Way.TheVariants.{Forward, Backward}
 
 -- What an answer lets through: the row, what is below it, or nothing.
 abbrev pub by : FilterResult → List ℕ → List ℕ → List ℕ
@@ -85,3 +85,8 @@ pub record Follows (xs : List ℕ) (x : ℕ) (o : Option NodeId) : Type 0 where
 pub record Precedes (xs : List ℕ) (x : ℕ) (o : Option NodeId) : Type 0 where
   pub stands : (pre : List ℕ) × (post : List ℕ) × (xs ≡ pre ++ x ∷ post)
   pub back : (pre post : List ℕ) → xs ≡ pre ++ x ∷ post → o ≡ head (reverse pre)
+
+-- What a walk comes to after x in a list.
+abbrev pub Beside : Way → List ℕ → ℕ → Option NodeId → Type 0
+Beside Forward = Follows
+Beside Backward = Precedes

@@ -9,6 +9,7 @@ pub mod order;
 pub mod path;
 pub mod walk;
 
+// Rows are named by number, as the tables are the caller's and nothing is allocated.
 #[derive(Clone, Copy)]
 pub struct Tree<'a> {
     rows: &'a [Row],

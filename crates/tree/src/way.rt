@@ -1,4 +1,4 @@
-// The two ways along a list.
+// The two ways along a list, which the definitions go by too.
 
 #[derive(Clone, Copy)]
 pub enum Way {

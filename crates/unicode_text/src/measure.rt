@@ -20,19 +20,26 @@ const TOO_LONG: usize = 0x4000_0000_0000_0000;
 pub trait Measure {
     ghost units: { ℕ → ℕ };
 
+    ghost BULLET: { ℕ };
+
     // What the bullet, U+2022, measures.
     const BULLET: usize;
 
     fn units_of(scalar: char) -> usize
         ensures { result ≡ units scalar };
 
-    // The constant, with what it means: generic code knows no more of a constant than its type.
-    fn bullet_units() -> usize
-        ensures { result ≡ units the_bullet };
-
     ghost least: { (c : ℕ) → 1 ≤ units c };
 
     ghost most: { (c : ℕ) → units c ≤ 4 };
+
+    ghost bullet: { BULLET ≡ units the_bullet };
+
+    // The constant, with what it means.
+    final fn bullet_units() -> usize
+        ensures { result ≡ units the_bullet }
+    {
+        Self::BULLET
+    }
 }
 
 // What a text measures: the sum over its scalars.
@@ -44,10 +51,9 @@ pub fn measure_text<M: Measure>(text: &[u8]) -> Result<usize, Unmeasured>
     }
     let mut sum = 0;
     let mut at = 0;
+    // Each step is as long as its scalar, and an iterator of scalars would have this loop as its one user.
     while at < text.len() {
-        let Some(scalar) = scalar_at(text, at) else {
-            return Err(Unmeasured::IllFormed);
-        };
+        let scalar = scalar_at(text, at).ok_or(Unmeasured::IllFormed)?;
         sum += M::units_of(scalar.value);
         at += scalar.length;
     }

@@ -1,5 +1,5 @@
 // Unicode scalars in a text: which one stands at an offset, and where a text may be cut.
-ghost use Rattle.std.specs.Prelude.{◌≡◌, ℕ, ◌+◌, ◌*◌, ◌%◌, ◌^◌, ◌<◌, ◌≤◌, ◌⊎◌, length, Decides, Option, MatchOption, slice_index};
+ghost use Rattle.std.specs.Prelude.{◌≡◌, ℕ, ◌+◌, ◌*◌, ◌%◌, ◌^◌, ◌<◌, ◌≤◌, ◌⊎◌, length, Option, MatchOption, slice_index, ◌↔◌, IsTrue};
 ghost use Rattle.unicode_text.specs.declared.scalar.Scalar.{Scalar};
 ghost use Rattle.unicode_text.specs.Table.{Trail, WellFormed};
 ghost use Rattle.unicode_text.specs.Scalars.{IsScalar, StandsAt, Cut, Between};
@@ -15,13 +15,8 @@ pub struct Scalar {
 fn trailing_bits(text: &[u8], at: usize) -> Option<u32>
     ensures { MatchOption result (at < length text.now → Trail (slice_index text.now at) → ⊥) (λ x. (at < length text.now) × Trail (slice_index text.now at) × (x ≡ slice_index text.now at % 0x40)) }
 {
-    if at >= text.len() {
-        return None;
-    }
-    match text[at] {
-        0x80..=0xBF => Some((text[at] % 0x40) as u32),
-        _ => None,
-    }
+    let byte = *text.get(at)?;
+    matches!(byte, 0x80..=0xBF).then_some((byte % 0x40) as u32)
 }
 
 // A value as the scalar of so many bytes; nothing where fewer bytes would do, or for no scalar.
@@ -31,13 +26,11 @@ fn of_length(value: u32, least: u32, bytes: usize) -> Option<Scalar>
     if value < least {
         return None;
     }
-    match char::from_u32(value) {
-        Some(value) => Some(Scalar {
-            value,
-            length: bytes,
-        }),
-        None => None,
-    }
+    let value = char::from_u32(value)?;
+    Some(Scalar {
+        value,
+        length: bytes,
+    })
 }
 
 // The scalar whose encoding begins at an offset; nothing where none does, as at or past the end.
@@ -52,7 +45,8 @@ pub fn scalar_at(text: &[u8], at: usize) -> Option<Scalar>
     }
 }
 
-// The scalar whose encoding begins at the byte at an offset, by that byte's range.
+// The scalar whose encoding begins at the byte at an offset, by that byte's range. It stands apart, since of
+// `scalar_at` it is shown besides, once for all these cases, that no other answer fits.
 fn read_at(text: &[u8], at: usize) -> Option<Scalar>
     requires { at < length text.now }
     ensures { StandsAt text.now at result }
@@ -86,14 +80,9 @@ fn read_at(text: &[u8], at: usize) -> Option<Scalar>
 // Whether a well-formed text may be cut at an offset: between two scalars, or at either end. Of any
 // other text it tells only whether an encoding might begin there.
 pub fn is_boundary(text: &[u8], at: usize) -> bool
-    ensures cut { Decides result (Cut text.now at) }
-    ensures between { WellFormed text.now → Decides result (Between text.now at) }
+    ensures cut { IsTrue result ↔ Cut text.now at }
+    ensures between { WellFormed text.now → (IsTrue result ↔ Between text.now at) }
 {
-    if at >= text.len() {
-        return at == text.len();
-    }
-    match text[at] {
-        0x80..=0xBF => false,
-        _ => true,
-    }
+    text.get(at)
+        .map_or(at == text.len(), |byte| !matches!(byte, 0x80..=0xBF))
 }

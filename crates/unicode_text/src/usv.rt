@@ -12,17 +12,17 @@ pub struct Usv;
 impl Measure for Usv {
     ghost units = { usv_units };
 
+    ghost BULLET = { 1 };
+
     const BULLET: usize = 1;
 
     ghost least = { Prim.search rules };
 
     ghost most = { Prim.search rules };
 
+    ghost bullet = { Prim.search rules };
+
     fn units_of(_scalar: char) -> usize {
         1
-    }
-
-    fn bullet_units() -> usize {
-        Self::BULLET
     }
 }

@@ -12,11 +12,15 @@ pub struct Utf16;
 impl Measure for Utf16 {
     ghost units = { utf16_units };
 
+    ghost BULLET = { 1 };
+
     const BULLET: usize = 1;
 
     ghost least = { Prim.search rules };
 
     ghost most = { Prim.search rules };
+
+    ghost bullet = { Prim.search rules };
 
     fn units_of(scalar: char) -> usize
         ensures units { result ≡ utf16_units scalar }
@@ -24,9 +28,5 @@ impl Measure for Utf16 {
         ensures only { (us : List ℕ) → EncodesInUtf16 scalar us → result ≡ length us }
     {
         if scalar < '\u{10000}' { 1 } else { 2 }
-    }
-
-    fn bullet_units() -> usize {
-        Self::BULLET
     }
 }

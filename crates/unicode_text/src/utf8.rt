@@ -1,6 +1,6 @@
 // The UTF-8 check: a text is accepted exactly when it is well-formed by the Unicode Standard,
 // Table 3-7, and is then the encodings of its scalars, one behind the other.
-ghost use Rattle.std.specs.Prelude.{◌≡◌, ℕ, true, List, Decides};
+ghost use Rattle.std.specs.Prelude.{◌≡◌, ℕ, true, List, ◌↔◌, IsTrue};
 ghost use Rattle.unicode_text.specs.States.{next, ends};
 ghost use Rattle.unicode_text.specs.Table.{WellFormed};
 ghost use Rattle.unicode_text.specs.Scalars.{Spells};
@@ -70,16 +70,13 @@ impl Utf8Check {
     fn is_complete(&self) -> bool
         ensures { result ≡ ends self.now.state }
     {
-        match self.state {
-            State::Start => true,
-            _ => false,
-        }
+        matches!(self.state, State::Start)
     }
 }
 
 // Whether the text is well-formed UTF-8.
 pub fn is_utf8(text: &[u8]) -> bool
-    ensures table { Decides result (WellFormed text.now) }
+    ensures table { IsTrue result ↔ WellFormed text.now }
     ensures spelt { result ≡ true → Spells (scalars_of text.now) text.now }
     ensures only { (cs : List ℕ) → Spells cs text.now → (result ≡ true) × (cs ≡ scalars_of text.now) }
 {

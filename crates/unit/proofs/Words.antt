@@ -1,6 +1,8 @@
 -- The word stops of a run: its word starts, and its first index where it opens a paragraph.
-use Rattle.std.proofs.Common.{◌≡◌, ℕ, suc, ◌<◌, ◌≤◌, Bool, true, false, ◌&&◌, ◌||◌, eqb, ltb, List, [], ◌∷◌, Some, None, Option, refl, subst, ⊎_elim, arith}
-use Rattle.std.proofs.lemmas.Bool.{ltb-true, ltb-false, eq-eqb, ne_eqb, cases_lt, cond_both, or_from, or_left, or_right, and_left, and_right}
+use Rattle.std.specs.Bool.{then_some}
+use Rattle.std.specs.Option.{option_or}
+use Rattle.std.proofs.Common.{sym, ◌≡◌, ℕ, suc, ◌<◌, ◌≤◌, Bool, true, false, ◌&&◌, ◌||◌, eqb, ltb, List, [], ◌∷◌, Some, None, Option, refl, subst, ⊎_elim, arith}
+use Rattle.std.proofs.lemmas.Bool.{ltb-true, ltb-false, eq-eqb, ne_eqb, cases_lt, cases_Bool, cond_both, or_from, or_left, or_right, and_left, and_right}
 use Rattle.source.specs.Runs.{Rising, first_from, last_below, or_lower}
 use Rattle.starts.specs.Starts.{among}
 use Rattle.starts.proofs.Words.{under, above}
@@ -56,12 +58,20 @@ module _ (head : Bool) (ws : List ℕ) where
       go None m = λ k a b. or_from (eqb k 0 && head) (among k ws) (none k a) (m k a b)
       go (Some i) m = (m.0, m.1, or_right (eqb i 0 && head) (among i ws) m.2, λ k a b. or_from (eqb k 0 && head) (among k ws) (none k a) (m.3 k a b))
 
-  pub last_word : (below i : ℕ) → Last (λ k. among k ws) below (Some i) → Last (λ k. (eqb k 0 && head) || among k ws) below (Some i)
+  last_word : (below i : ℕ) → Last (λ k. among k ws) below (Some i) → Last (λ k. (eqb k 0 && head) || among k ws) below (Some i)
   last_word below i m =
       (m.0, or_right (eqb i 0 && head) (among i ws) m.1, λ k a b. or_from (eqb k 0 && head) (among k ws) (later k (omega arith)) (m.2 k a b))
 
-  pub last_open : (below : ℕ) → 0 < below → head ≡ true → Last (λ k. among k ws) below None → Last (λ k. (eqb k 0 && head) || among k ws) below (Some 0)
+  last_open : (below : ℕ) → 0 < below → head ≡ true → Last (λ k. among k ws) below None → Last (λ k. (eqb k 0 && head) || among k ws) below (Some 0)
   last_open below h e m = (h, or_left head (among 0 ws) e, λ k a b. or_from (eqb k 0 && head) (among k ws) (later k a) (m k b))
 
-  pub last_none : (below : ℕ) → head ≡ false → Last (λ k. among k ws) below None → Last (λ k. (eqb k 0 && head) || among k ws) below None
+  last_none : (below : ℕ) → head ≡ false → Last (λ k. among k ws) below None → Last (λ k. (eqb k 0 && head) || among k ws) below None
   last_none below e m = λ k b. or_from (eqb k 0 && head) (among k ws) (and_right (eqb k 0) head e) (m k b)
+
+  pub last_or : (below : ℕ) (o : Option ℕ) → 0 < below → Last (λ k. among k ws) below o → Last (λ k. (eqb k 0 && head) || among k ws) below (option_or o (then_some head 0))
+  last_or below (Some i) h m = last_word below i m
+  last_or below None h m =
+      ⊎_elim
+      (λ e. subst (λ b. Last (λ k. (eqb k 0 && head) || among k ws) below (then_some b 0)) (sym e) (last_open below h e m))
+      (λ e. subst (λ b. Last (λ k. (eqb k 0 && head) || among k ws) below (then_some b 0)) (sym e) (last_none below e m))
+      (cases_Bool head)

@@ -15,63 +15,44 @@ use unicode_text::utf16::Utf16;
 // The bytes that hexadecimal digits spell; nothing where the line is no vector.
 fn unhex(heap: Global, text: &str) -> Result<Option<Vec<u8>>, AllocError> {
     let mut bytes = Vec::new(heap);
-    let mut rest = text;
-    for _ in 0..text.len() {
-        if rest.is_empty() {
-            break;
-        }
-        let (Some(pair), Some(behind)) = (rest.get(0..2), rest.get(2..)) else {
-            return Ok(None);
-        };
-        let Ok(byte) = u8::from_str_radix(pair, 16) else {
+    for at in (0..text.len()).step_by(2) {
+        let pair = text.get(at..at.saturating_add(2));
+        let Some(byte) = pair.and_then(|digits| u8::from_str_radix(digits, 16).ok()) else {
             return Ok(None);
         };
         bytes.push(byte)?;
-        rest = behind;
     }
     Ok(Some(bytes))
 }
 
 // Whether a text measures as many units as a word says.
 fn measures<M: Measure>(text: &[u8], word: Option<&str>) -> bool {
-    let Some(digits) = word else {
-        return false;
-    };
-    match (measure_text::<M>(text), digits.parse::<usize>()) {
-        (Ok(units), Ok(wanted)) => units == wanted,
-        _ => false,
-    }
+    let wanted = word.and_then(|digits| digits.parse().ok());
+    measure_text::<M>(text).is_ok_and(|units| wanted == Some(units))
 }
 
 // Whether no offset of `length` from `at` on, but the first, is a cut.
 fn is_uncut(text: &[u8], at: usize, length: usize) -> bool {
-    for k in 1..length {
-        if is_boundary(text, at.saturating_add(k)) {
-            return false;
-        }
-    }
-    true
+    !(1..length).any(|k| is_boundary(text, at.saturating_add(k)))
+}
+
+// Where the scalar at `at` ends; nothing where it is not the one that the word names, or is cut.
+fn end_of_scalar(text: &[u8], at: usize, word: &str) -> Option<usize> {
+    let wanted = u32::from_str_radix(word, 16).ok()?;
+    let scalar = scalar_at(text, at)?;
+    let is_right = scalar.value as u32 == wanted
+        && is_boundary(text, at)
+        && is_uncut(text, at, scalar.length);
+    is_right.then_some(at.saturating_add(scalar.length))
 }
 
 // Whether the text's scalars are those that the words name, and it is cut just between them.
-fn is_made_of(text: &[u8], words: SplitWhitespace<'_>) -> bool {
-    let mut at = 0usize;
-    for word in words {
-        let (Some(scalar), Ok(wanted)) = (scalar_at(text, at), u32::from_str_radix(word, 16)) else {
-            return false;
-        };
-        if scalar.value as u32 != wanted
-            || !is_boundary(text, at)
-            || !is_uncut(text, at, scalar.length)
-        {
-            return false;
-        }
-        at = at.saturating_add(scalar.length);
-    }
-    at == text.len()
-        && is_boundary(text, at)
-        && !is_boundary(text, at.saturating_add(1))
-        && scalar_at(text, at).is_none()
+fn is_made_of(text: &[u8], mut words: SplitWhitespace<'_>) -> bool {
+    let end = words.try_fold(0, |at, word| end_of_scalar(text, at, word));
+    end == Some(text.len())
+        && is_boundary(text, text.len())
+        && !is_boundary(text, text.len().saturating_add(1))
+        && scalar_at(text, text.len()).is_none()
 }
 
 // Whether the crate answers as the vector has it.
@@ -93,12 +74,9 @@ fn main(rt: HostRuntime) -> anyhow::Result<()> {
     for line in BufReader::new(rt.alloc(), rt.stdin())?.lines(rt.alloc()) {
         let text = line?;
         let mut words = text.as_str().split_whitespace();
-        let Some(hex) = words.next() else {
+        let Some(hex) = words.next().filter(|word| !word.starts_with('#')) else {
             continue;
         };
-        if hex.starts_with('#') {
-            continue;
-        }
         match unhex(rt.alloc(), hex)? {
             Some(bytes) if agrees(bytes.as_slice(), words) => right = right.saturating_add(1),
             _ => {

@@ -1,135 +1,85 @@
-// The verdict on a draft: its root, then its runs, question by question and row by row.
-ghost use Rattle.std.specs.Prelude.{ℕ, ◌<◌, Decides};
-ghost use Rattle.page.specs.Sheets.{sheet_of};
-ghost use Rattle.page.specs.Judging.{Rooted, CharactersAt, Linked, FitAt, Faulty, Faults, RunsVerdict};
+// The verdict on a draft: its root, then what is asked of its runs, row by row.
+ghost use Rattle.std.specs.Prelude.{◌↔◌, IsTrue};
+ghost use Rattle.rows.specs.declared.node.NodeId.{NodeId};
+ghost use Rattle.page.specs.Sheets.{sheet_of, IsRun};
+ghost use Rattle.page.specs.Judging.{Rooted, CharactersAt, WordsAt, LineAt, Linked, Answered, RunsVerdict};
 
 use crate::draft::*;
-use crate::part::{is_fitting, is_rising};
 use rows::node::*;
 use rows::refusal::Refusal;
-use rows::role;
 
 impl<'a> Draft<'a> {
     fn is_rooted(&self) -> bool
-        ensures { Decides result (Rooted (sheet_of self.now)) }
+        ensures { IsTrue result ↔ Rooted (sheet_of self.now) }
     {
-        let role = self.row(self.root).role;
-        if role < role::LABEL {
-            return false;
-        }
-        if role > role::TEXT_INPUT {
-            return false;
-        }
-        match self.first() {
-            Some(_) => true,
-            None => false,
-        }
+        self.row(self.root).holds_text() && self.first().is_some()
     }
 
     fn has_characters(&self, id: NodeId) -> bool
-        ensures { Decides result (CharactersAt (sheet_of self.now) id.0) }
+        ensures { IsTrue result ↔ CharactersAt (sheet_of self.now) id.0 }
     {
-        let lengths = self.lengths(id);
-        if !is_fitting(self.text(id), lengths) {
-            return false;
-        }
-        if lengths.len() > 0 {
-            return true;
-        }
-        match self.next(id) {
-            Some(_) => false,
-            None => true,
-        }
+        let parts = self.parts(id);
+        parts.is_fitting() && (!parts.lengths.is_empty() || self.next(id).is_none())
+    }
+
+    fn has_words(&self, id: NodeId) -> bool
+        ensures { IsTrue result ↔ WordsAt (sheet_of self.now) id.0 }
+    {
+        self.parts(id).is_rising()
     }
 
     // Whether a line link is none, or the neighbour in the list, of the same tree, that links back.
     fn is_linked(&self, id: NodeId, link: NodeId, neighbour: Option<NodeId>, back: NodeId) -> bool
-        ensures { Decides result (Linked (sheet_of self.now).rows id.0 link neighbour back) }
+        ensures { IsTrue result ↔ Linked (sheet_of self.now).rows id.0 link neighbour back }
     {
-        if link.0 == NONE.0 {
-            return true;
-        }
-        let Some(other) = neighbour else {
-            return false;
-        };
-        if other.0 != link.0 {
-            return false;
-        }
-        if self.row(link).tree.0 != self.row(id).tree.0 {
-            return false;
-        }
-        back.0 == id.0
+        link == NONE
+            || neighbour == Some(link) && self.row(link).tree == self.row(id).tree && back == id
     }
 
     fn is_in_line(&self, id: NodeId) -> bool
-        ensures { Decides result (FitAt Question.Line (sheet_of self.now) id.0) }
+        ensures { IsTrue result ↔ LineAt (sheet_of self.now) id.0 }
     {
         let here = self.row(id);
-        let next = self.next(id);
-        let after = self.row(here.next);
-        if !self.is_linked(id, here.next, next, after.previous) {
-            return false;
-        }
-        let previous = self.previous(id);
-        let before = self.row(here.previous);
-        self.is_linked(id, here.previous, previous, before.next)
+        self.is_linked(id, here.next, self.next(id), self.row(here.next).previous)
+            && self.is_linked(
+                id,
+                here.previous,
+                self.previous(id),
+                self.row(here.previous).next,
+            )
     }
 
-    // Whether the run is as the question wants it.
-    fn fits(&self, question: Question, id: NodeId) -> bool
-        ensures { Decides result (FitAt question (sheet_of self.now) id.0) }
+    // The run with the smallest row number that does not fit.
+    pub(crate) fn first_fault<F: Fn(NodeId) -> bool>(&self, fits: F) -> Option<NodeId>
+        requires { (id : NodeId) → IsRun (sheet_of self.now) id.0 → F.pre fits id }
+        ensures { Answered (F.post fits) (sheet_of self.now) result }
     {
-        match question {
-            Question::Characters => self.has_characters(id),
-            Question::Words => {
-                let count = self.lengths(id).len();
-                is_rising(self.words(id), count)
-            }
-            Question::Line => self.is_in_line(id),
-        }
-    }
-
-    // Whether the row is a run, and not as the question wants it.
-    fn is_at_fault(&self, question: Question, id: NodeId) -> bool
-        ensures { Faulty question (sheet_of self.now) id.0 result }
-    {
-        if !self.is_run(id) {
-            return false;
-        }
-        if self.fits(question, id) {
-            return false;
-        }
-        true
-    }
-
-    // The run at fault with the smallest row number.
-    fn first_fault(&self, question: Question) -> Option<NodeId>
-        ensures { Faults question (sheet_of self.now) result }
-    {
+        // under `find(|id| self.is_run(*id) && !fits(*id))` it is not seen that `fits` is called at runs alone
         for id in 0..self.tree.len() as u16 {
-            if self.is_at_fault(question, NodeId(id)) {
-                return Some(NodeId(id));
+            let id = NodeId(id);
+            if self.is_run(id) && !fits(id) {
+                return Some(id);
             }
         }
         None
     }
 
-    // Nothing where the root and the runs under it are in order, else the refusal.
-    pub(crate) fn verdict(&self) -> Option<Refusal>
+    // Whether the root and the runs under it are in order, else the refusal.
+    pub(crate) fn verdict(&self) -> Result<(), Refusal>
         ensures { RunsVerdict (sheet_of self.now) result }
     {
         if !self.is_rooted() {
-            return Some(Refusal::BadRoot(self.root));
+            return Err(Refusal::BadRoot(self.root));
         }
-        if let Some(run) = self.first_fault(Question::Characters) {
-            return Some(Refusal::BadRun(run));
+        if let Some(run) = self.first_fault(|id| self.has_characters(id)) {
+            return Err(Refusal::BadRun(run));
         }
-        if let Some(run) = self.first_fault(Question::Words) {
-            return Some(Refusal::BadWords(run));
+        if let Some(run) = self.first_fault(|id| self.has_words(id)) {
+            return Err(Refusal::BadWords(run));
         }
-        if let Some(run) = self.first_fault(Question::Line) {
-            return Some(Refusal::BadLine(run));
+        if let Some(run) = self.first_fault(|id| self.is_in_line(id)) {
+            return Err(Refusal::BadLine(run));
         }
-        None
+        Ok(())
     }
 }

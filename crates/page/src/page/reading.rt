@@ -1,6 +1,6 @@
 // The page as a source of runs.
-ghost use Rattle.std.specs.Prelude.{◌≡◌};
 ghost use Rattle.page.specs.Pages.{page_doc};
+ghost use Rattle.page.specs.Parts.{PartsOf};
 ghost use Rattle.page.specs.Sounds.{page_sound};
 
 use crate::page::Page;
@@ -10,16 +10,25 @@ use rows::refusal::Refusal;
 use source::source::Source;
 use source::strip::part;
 
+impl<'a> Page<'a> {
+    // What the page has of a run; the blank page's row 0 has no characters.
+    fn parts(&self, row: NodeId) -> Option<Parts<'a>>
+        ensures { PartsOf (page_doc self.now).runs row.0 result }
+    {
+        match &self.draft {
+            Some(draft) => draft.is_run(row).then_some(draft.parts(row)),
+            None => (row.0 == 0).then_some(Parts::none()),
+        }
+    }
+}
+
 impl Source for Page<'_> {
     ghost doc = { λ p. page_doc p };
 
     ghost sound = { λ p. page_sound p };
 
     fn root(&self) -> NodeId {
-        if self.blank {
-            return NodeId(0);
-        }
-        self.draft.root
+        self.draft.as_ref().map_or(NodeId(0), |draft| draft.root)
     }
 
     fn is_masked(&self) -> bool {
@@ -27,108 +36,56 @@ impl Source for Page<'_> {
     }
 
     fn first(&self) -> NodeId {
-        if self.blank {
-            return NodeId(0);
-        }
-        match self.draft.first() {
-            Some(id) => id,
-            None => NodeId(0),
-        }
+        self.draft
+            .as_ref()
+            .and_then(|draft| draft.first())
+            .unwrap_or(NodeId(0))
     }
 
     fn last(&self) -> NodeId {
-        if self.blank {
-            return NodeId(0);
-        }
-        match self.draft.last() {
-            Some(id) => id,
-            None => NodeId(0),
-        }
+        self.draft
+            .as_ref()
+            .and_then(|draft| draft.last())
+            .unwrap_or(NodeId(0))
     }
 
     fn next(&self, row: NodeId) -> Option<NodeId> {
-        if self.blank {
-            return None;
-        }
-        self.draft.next(row)
+        self.draft.as_ref()?.next(row)
     }
 
     fn previous(&self, row: NodeId) -> Option<NodeId> {
-        if self.blank {
-            return None;
-        }
-        self.draft.previous(row)
+        self.draft.as_ref()?.previous(row)
     }
 
     fn character_count(&self, row: NodeId) -> Option<usize> {
-        if self.blank {
-            return if row.0 == 0 { Some(0) } else { None };
-        }
-        if !self.draft.is_run(row) {
-            return None;
-        }
-        Some(self.draft.lengths(row).len())
+        Some(self.parts(row)?.lengths.len())
     }
 
     fn is_joined(&self, row: NodeId) -> Option<bool> {
-        if self.blank {
-            return if row.0 == 0 { Some(false) } else { None };
-        }
-        if !self.draft.is_run(row) {
-            return None;
-        }
-        Some(self.draft.row(row).next.0 != NONE.0)
+        Some(self.parts(row)?.joined)
     }
 
     fn has_break(&self, row: NodeId) -> Option<bool> {
-        if self.blank {
-            return if row.0 == 0 { Some(false) } else { None };
-        }
-        if !self.draft.is_run(row) {
-            return None;
-        }
-        Some(feeds_line(self.draft.text(row)))
+        Some(self.parts(row)?.has_break())
     }
 
     fn character_length(&self, row: NodeId, index: usize) -> Option<usize> {
-        if self.blank {
-            return None;
-        }
-        if !self.draft.is_run(row) {
-            return None;
-        }
-        let lengths = self.draft.lengths(row);
-        if index >= lengths.len() {
-            return None;
-        }
-        Some(lengths[index] as usize)
+        let length = self.parts(row)?.lengths.get(index)?;
+        Some(usize::from(*length))
     }
 
     fn word_start_from(&self, row: NodeId, index: usize) -> Option<usize> {
-        if self.blank {
-            return None;
-        }
-        if !self.draft.is_run(row) {
-            return None;
-        }
-        first_from(self.draft.words(row), index)
+        first_from(self.parts(row)?.words, index)
     }
 
     fn word_start_before(&self, row: NodeId, index: usize) -> Option<usize> {
-        if self.blank {
-            return None;
-        }
-        if !self.draft.is_run(row) {
-            return None;
-        }
-        last_before(self.draft.words(row), index)
+        last_before(self.parts(row)?.words, index)
     }
 
     fn is_before(&self, one: NodeId, other: NodeId) -> bool {
-        if self.blank {
-            return false;
-        }
-        self.draft.is_before(one, other)
+        self.draft
+            .as_ref()
+            .is_some_and(|draft| draft.is_before(one, other))
     }
 
     fn piece<'b>(
@@ -138,21 +95,13 @@ impl Source for Page<'_> {
         behind: usize,
         strip: &'b [u8],
     ) -> Result<&'b [u8], Refusal> {
-        let Some(count) = self.character_count(row) else {
-            return Err(Refusal::Misplaced);
-        };
-        if first > behind || behind > count {
+        let parts = self.parts(row).ok_or(Refusal::Misplaced)?;
+        let lengths = parts.lengths;
+        if first > behind || behind > lengths.len() {
             return Err(Refusal::Misplaced);
         }
-        if self.blank {
-            return Ok(&strip[0..0]);
-        }
-        let lengths = self.draft.lengths(row);
-        let from = total(&lengths[0..first]);
+        let from = total(&lengths[..first]);
         let to = from + total(&lengths[first..behind]);
-        match part(self.draft.text(row), strip, false, from, to) {
-            Some(bytes) => Ok(bytes),
-            None => Err(Refusal::Misplaced),
-        }
+        part(parts.text, strip, false, from, to).ok_or(Refusal::Misplaced)
     }
 }

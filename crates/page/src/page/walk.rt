@@ -1,28 +1,33 @@
 // The calls on the page's tree: paths, and walks with a filter. The blank page has row 0 alone.
-ghost use Rattle.std.specs.Prelude.{◌≡◌};
-ghost use Rattle.page.specs.Calls.{PageParent, PagePath, PageFirst, PageLast, PageNext, PagePrevious};
+ghost use Rattle.page.specs.Calls.{PageParent, PagePath, PageFirst, PageLast, PageNext, PagePrevious, PageTree};
 
 use crate::page::Page;
 use rows::filters::Filter;
 use rows::node::*;
 use rows::refusal::Refusal;
+use tree::tree::Tree;
 
 impl<'a> Page<'a> {
+    // The tree, which the blank page lacks.
+    fn tree(&self) -> Result<&Tree<'a>, Refusal>
+        ensures { PageTree self.now result }
+    {
+        Ok(&self.draft.as_ref().ok_or(Refusal::Misplaced)?.tree)
+    }
+
     // The parent row and the index among its children, or nothing for row 0.
     pub fn parent_and_index(&self, row: NodeId) -> Result<Option<(u16, u16)>, Refusal>
         ensures { PageParent self.now row result }
     {
-        if !self.blank {
-            return self.draft.tree.parent_and_index(row);
-        }
-        if row.0 == 0 {
-            Ok(None)
-        } else {
-            Err(Refusal::Misplaced)
+        match &self.draft {
+            Some(draft) => draft.tree.parent_and_index(row),
+            None if row.0 == 0 => Ok(None),
+            None => Err(Refusal::Misplaced),
         }
     }
 
-    // Writes the indexes that lead from `base` down to `row`, and gives their number.
+    // Writes the indexes that lead from `base` down to `row`, and gives their number. The caller lends the
+    // array, as nothing is allocated here.
     pub fn relative_index_path(
         &self,
         base: NodeId,
@@ -31,13 +36,10 @@ impl<'a> Page<'a> {
     ) -> Result<usize, Refusal>
         ensures { PagePath self.now base row out.old out.new result }
     {
-        if !self.blank {
-            return self.draft.tree.relative_index_path(base, row, out);
-        }
-        if base.0 == 0 && row.0 == 0 {
-            Ok(0)
-        } else {
-            Err(Refusal::Misplaced)
+        match &self.draft {
+            Some(draft) => draft.tree.relative_index_path(base, row, out),
+            None if base.0 == 0 && row.0 == 0 => Ok(0),
+            None => Err(Refusal::Misplaced),
         }
     }
 
@@ -49,10 +51,7 @@ impl<'a> Page<'a> {
     ) -> Result<Option<NodeId>, Refusal>
         ensures { PageFirst self.now (F.Filter.answer filter.now) base result }
     {
-        if self.blank {
-            return Err(Refusal::Misplaced);
-        }
-        self.draft.tree.first(filter, base)
+        self.tree()?.first(filter, base)
     }
 
     // The last row of the list under `base`.
@@ -63,10 +62,7 @@ impl<'a> Page<'a> {
     ) -> Result<Option<NodeId>, Refusal>
         ensures { PageLast self.now (F.Filter.answer filter.now) base result }
     {
-        if self.blank {
-            return Err(Refusal::Misplaced);
-        }
-        self.draft.tree.last(filter, base)
+        self.tree()?.last(filter, base)
     }
 
     // The row after `row` in the list under `base`.
@@ -78,10 +74,7 @@ impl<'a> Page<'a> {
     ) -> Result<Option<NodeId>, Refusal>
         ensures { PageNext self.now (F.Filter.answer filter.now) base row result }
     {
-        if self.blank {
-            return Err(Refusal::Misplaced);
-        }
-        self.draft.tree.next(filter, base, row)
+        self.tree()?.next(filter, base, row)
     }
 
     // The row before `row` in the list under `base`.
@@ -93,9 +86,6 @@ impl<'a> Page<'a> {
     ) -> Result<Option<NodeId>, Refusal>
         ensures { PagePrevious self.now (F.Filter.answer filter.now) base row result }
     {
-        if self.blank {
-            return Err(Refusal::Misplaced);
-        }
-        self.draft.tree.previous(filter, base, row)
+        self.tree()?.previous(filter, base, row)
     }
 }

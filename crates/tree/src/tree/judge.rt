@@ -1,16 +1,16 @@
-// A tree out of tables that have been judged, and the blank tree that comes with a refusal.
-ghost use Rattle.std.specs.Prelude.{◌≡◌, Option};
-ghost use Rattle.rows.specs.Judge.{Verdict};
-ghost use Rattle.tree.specs.Judged.{Blank, Judged};
+// A tree out of tables that are judged, and the blank tree that comes with a refusal.
+ghost use Rattle.std.specs.Prelude.{◌≡◌, Some, None, IsOk, IsErrOf};
+ghost use Rattle.rows.specs.Judge.{WellFormed, Refused};
+ghost use Rattle.tree.specs.Judged.{Blank, Judged, Tried};
 ghost use Rattle.rows.specs.declared.refusal.Refusal.{Refusal};
 
 use crate::tree::Tree;
 use rows::node::*;
 use rows::refusal::Refusal;
-use rows::role;
+use rows::role::Role;
 
 static BLANK: [Row; 1] = [Row {
-    role: role::OTHER,
+    role: Role::Other as u8,
     hidden: false,
     tree: TreeIndex(0),
     parent: NONE,
@@ -35,21 +35,29 @@ impl<'a> Tree<'a> {
         }
     }
 
-    // The tables' tree, or the refusal together with the blank tree.
+    // The tables' tree, or the refusal.
+    pub fn try_judge(tables: Tables<'a>, root: NodeId) -> Result<Tree<'a>, Refusal>
+        ensures judged { Tried tables.entry root result }
+        ensures accepts { WellFormed tables.entry root.0 → IsOk result }
+        ensures refuses { (e : Refusal) → Refused tables.entry root.0 e → IsErrOf result e }
+    {
+        tables.verdict(root)?;
+        Ok(Tree {
+            rows: tables.rows,
+            children: tables.children,
+            root,
+        })
+    }
+
+    // The same, with the blank tree beside a refusal: a tree comes in each case, so it is no `Result`.
     pub fn judge(tables: Tables<'a>, root: NodeId) -> (Tree<'a>, Option<Refusal>)
         ensures judged { Judged tables.entry root result.0 result.1 }
-        ensures single { (o : Option Refusal) → Verdict tables.entry root.0 o → result.1 ≡ o }
+        ensures accepts { WellFormed tables.entry root.0 → result.1 ≡ None }
+        ensures refuses { (e : Refusal) → Refused tables.entry root.0 e → result.1 ≡ Some e }
     {
-        match tables.verdict(root) {
-            None => (
-                Tree {
-                    rows: tables.rows,
-                    children: tables.children,
-                    root,
-                },
-                None,
-            ),
-            Some(refusal) => (Tree::blank(), Some(refusal)),
+        match Tree::try_judge(tables, root) {
+            Ok(tree) => (tree, None),
+            Err(refusal) => (Tree::blank(), Some(refusal)),
         }
     }
 }

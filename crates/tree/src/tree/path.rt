@@ -25,24 +25,15 @@ impl<'a> Tree<'a> {
     pub fn row(&self, id: NodeId) -> Option<Row>
         ensures { RowOn self.now id result }
     {
-        if id.0 as usize >= self.rows.len() {
-            return None;
-        }
-        Some(self.rows[id.0 as usize])
+        self.rows.get(id.0 as usize).copied()
     }
 
     // The parent row and the index among its children, or nothing for row 0.
     pub fn parent_and_index(&self, id: NodeId) -> Result<Option<(u16, u16)>, Refusal>
         ensures { ParentOn self.now id result }
     {
-        if id.0 as usize >= self.rows.len() {
-            return Err(Refusal::Misplaced);
-        }
-        if id.0 == 0 {
-            return Ok(None);
-        }
-        let here = self.rows[id.0 as usize];
-        Ok(Some((here.parent.0, here.index)))
+        let here = self.row(id).ok_or(Refusal::Misplaced)?;
+        Ok((id.0 > 0).then_some((here.parent.0, here.index)))
     }
 
     // How many steps `base` lies above `row`, or nothing where it is neither the row nor above it.
@@ -58,10 +49,11 @@ impl<'a> Tree<'a> {
             n += 1;
             current = self.rows[current as usize].parent.0;
         }
-        if current == base.0 { Some(n) } else { None }
+        (current == base.0).then_some(n)
     }
 
-    // Writes the indexes that lead from `base` down to `row`, and gives their number.
+    // Writes the indexes that lead from `base` down to `row`, and gives their number. The caller lends the
+    // array, as nothing is allocated here.
     pub fn relative_index_path(
         &self,
         base: NodeId,
@@ -70,10 +62,9 @@ impl<'a> Tree<'a> {
     ) -> Result<usize, Refusal>
         ensures { PathOn self.now base row out.old out.new result }
     {
-        let Some(n) = self.steps_to(base, row) else {
-            return Err(Refusal::Misplaced);
-        };
+        let n = self.steps_to(base, row).ok_or(Refusal::Misplaced)?;
         let mut current = row.0;
+        // by number, since nothing is known behind the loop of what is written through `iter_mut().rev()`
         for place in (0..n).rev() {
             let here = &self.rows[current as usize];
             out[place] = here.index;

@@ -1,11 +1,11 @@
 // One walk for every filter, both ways: it climbs by parents and builds no list.
-ghost use Rattle.std.specs.Prelude.{◌≡◌, ℕ, ◌+◌, ◌<◌, ◌≤◌, length, Decides};
+ghost use Rattle.std.specs.Prelude.{◌≡◌, ℕ, ◌+◌, ◌<◌, ◌≤◌, length, ◌↔◌, IsTrue};
 ghost use Rattle.rows.specs.Rows.{count as child_count};
 ghost use Rattle.tree.specs.Subtrees.{Under};
 ghost use Rattle.rows.specs.Rows.{kid as kid_at};
 ghost use Rattle.tree.specs.Walk.{Over, In, Sibling, Child, ahead, shown, answers};
 ghost use Rattle.tree.specs.Walk.{head as head_of};
-ghost use Rattle.tree.specs.Trees.{rows_of, entries_of, IsRow, Lists, Included, Walked, FirstOn, LastOn, NextOn, PreviousOn};
+ghost use Rattle.tree.specs.Trees.{rows_of, entries_of, IsRow, Lists, Included, Walked, EdgeOn, BesideOn, FirstOn, LastOn, NextOn, PreviousOn};
 
 use crate::tree::Tree;
 use crate::way::Way;
@@ -13,6 +13,7 @@ use rows::filters::*;
 use rows::node::*;
 use rows::refusal::Refusal;
 
+// The helpers of a walk ask that a row is there. A struct that knows it would be made anew at each step.
 impl<'a> Tree<'a> {
     // The child of `row` at a place.
     fn kid(&self, row: NodeId, place: usize) -> NodeId
@@ -29,20 +30,22 @@ impl<'a> Tree<'a> {
         requires within { IsRow self.now row }
         ensures { Sibling (rows_of self.now) (entries_of self.now) way row.0 result }
     {
-        let parent = self.rows[row.0 as usize].parent;
-        let index = self.rows[row.0 as usize].index as usize;
+        let here = &self.rows[row.0 as usize];
+        let index = here.index as usize;
         match way {
             Way::Forward => {
-                if index + 1 >= self.rows[parent.0 as usize].children.count as usize {
-                    return None;
+                if index + 1 < self.rows[here.parent.0 as usize].children.count as usize {
+                    Some(self.kid(here.parent, index + 1))
+                } else {
+                    None
                 }
-                Some(self.kid(parent, index + 1))
             }
             Way::Backward => {
-                if index == 0 {
-                    return None;
+                if index > 0 {
+                    Some(self.kid(here.parent, index - 1))
+                } else {
+                    None
                 }
-                Some(self.kid(parent, index - 1))
             }
         }
     }
@@ -52,13 +55,10 @@ impl<'a> Tree<'a> {
         requires { IsRow self.now row }
         ensures { Child (rows_of self.now) (entries_of self.now) way row.0 result }
     {
-        let count = self.rows[row.0 as usize].children.count as usize;
-        if count == 0 {
-            return None;
-        }
+        let last = (self.rows[row.0 as usize].children.count as usize).checked_sub(1)?;
         match way {
             Way::Forward => Some(self.kid(row, 0)),
-            Way::Backward => Some(self.kid(row, count - 1)),
+            Way::Backward => Some(self.kid(row, last)),
         }
     }
 
@@ -73,11 +73,10 @@ impl<'a> Tree<'a> {
             if let Some(sibling) = self.sibling(current, way) {
                 return Some(sibling);
             }
-            let parent = self.rows[current.0 as usize].parent;
-            if parent.0 == base.0 {
+            current = self.rows[current.0 as usize].parent;
+            if current == base {
                 return None;
             }
-            current = parent;
         }
     }
 
@@ -97,6 +96,7 @@ impl<'a> Tree<'a> {
         while let Some(id) = at {
             match filter.filter(id, &self.rows[id.0 as usize]) {
                 FilterResult::Include => return Some(id),
+                // as a match and no `or_else`, since each way on is shown by itself
                 FilterResult::ExcludeNode => match self.child(id, way) {
                     Some(child) => at = Some(child),
                     None => at = self.step_over(base, id, way),
@@ -109,42 +109,59 @@ impl<'a> Tree<'a> {
 
     // Whether the tree has this row, and the filter includes it.
     fn includes<F: Filter>(&self, filter: &F, row: NodeId) -> bool
-        ensures { Decides result (Included self.now (F.answer filter.now) row) }
+        ensures { IsTrue result ↔ Included self.now (F.answer filter.now) row }
     {
-        if row.0 as usize >= self.rows.len() {
-            return false;
-        }
-        match filter.filter(row, &self.rows[row.0 as usize]) {
-            FilterResult::Include => true,
-            _ => false,
-        }
+        self.rows
+            .get(row.0 as usize)
+            .is_some_and(|here| filter.filter(row, here) == FilterResult::Include)
     }
 
     // Whether `row` is of the list under `base`, and a walk may be based there.
     pub fn is_listed<F: Filter>(&self, filter: &F, base: NodeId, row: NodeId) -> bool
-        ensures { Decides result (Walked self.now (F.answer filter.now) base row) }
+        ensures { IsTrue result ↔ Walked self.now (F.answer filter.now) base row }
     {
-        if !self.includes(filter, base) {
+        if !self.includes(filter, base) || !self.includes(filter, row) {
             return false;
         }
-        if !self.includes(filter, row) {
-            return false;
-        }
-        let mut current = row.0;
-        while current > base.0 {
-            let parent = self.rows[current as usize].parent;
-            if parent.0 == base.0 {
+        let mut current = row;
+        while current.0 > base.0 {
+            current = self.rows[current.0 as usize].parent;
+            if current == base {
                 return true;
             }
-            if parent.0 < base.0 {
+            if filter.filter(current, &self.rows[current.0 as usize]) != FilterResult::ExcludeNode {
                 return false;
-            }
-            match filter.filter(parent, &self.rows[parent.0 as usize]) {
-                FilterResult::ExcludeNode => current = parent.0,
-                _ => return false,
             }
         }
         false
+    }
+
+    // The row that a walk of the list under `base` comes to first.
+    fn edge<F: Filter>(&self, filter: &F, base: NodeId, way: Way) -> Result<Option<NodeId>, Refusal>
+        ensures { EdgeOn way self.now (F.answer filter.now) base result }
+    {
+        if !self.includes(filter, base) {
+            return Err(Refusal::Misplaced);
+        }
+        let start = self.child(base, way);
+        Ok(self.seek(filter, base, start, way))
+    }
+
+    // The row that a walk of the list under `base` comes to after `row`.
+    fn beside<F: Filter>(
+        &self,
+        filter: &F,
+        base: NodeId,
+        row: NodeId,
+        way: Way,
+    ) -> Result<Option<NodeId>, Refusal>
+        ensures { BesideOn way self.now (F.answer filter.now) base row result }
+    {
+        if !self.is_listed(filter, base, row) {
+            return Err(Refusal::Misplaced);
+        }
+        let start = self.step_over(base, row, way);
+        Ok(self.seek(filter, base, start, way))
     }
 
     // The first row of the list under `base`.
@@ -152,22 +169,14 @@ impl<'a> Tree<'a> {
         ensures first { FirstOn self.now (F.answer filter.now) base result }
         ensures lists { IsRow self.now base → Lists self.now (F.answer filter.now) base }
     {
-        if !self.includes(filter, base) {
-            return Err(Refusal::Misplaced);
-        }
-        let start = self.child(base, Way::Forward);
-        Ok(self.seek(filter, base, start, Way::Forward))
+        self.edge(filter, base, Way::Forward)
     }
 
     // The last row of the list under `base`.
     pub fn last<F: Filter>(&self, filter: &F, base: NodeId) -> Result<Option<NodeId>, Refusal>
         ensures { LastOn self.now (F.answer filter.now) base result }
     {
-        if !self.includes(filter, base) {
-            return Err(Refusal::Misplaced);
-        }
-        let start = self.child(base, Way::Backward);
-        Ok(self.seek(filter, base, start, Way::Backward))
+        self.edge(filter, base, Way::Backward)
     }
 
     // The row after `row` in the list under `base`.
@@ -179,11 +188,7 @@ impl<'a> Tree<'a> {
     ) -> Result<Option<NodeId>, Refusal>
         ensures { NextOn self.now (F.answer filter.now) base row result }
     {
-        if !self.is_listed(filter, base, row) {
-            return Err(Refusal::Misplaced);
-        }
-        let start = self.step_over(base, row, Way::Forward);
-        Ok(self.seek(filter, base, start, Way::Forward))
+        self.beside(filter, base, row, Way::Forward)
     }
 
     // The row before `row` in the list under `base`.
@@ -195,10 +200,6 @@ impl<'a> Tree<'a> {
     ) -> Result<Option<NodeId>, Refusal>
         ensures { PreviousOn self.now (F.answer filter.now) base row result }
     {
-        if !self.is_listed(filter, base, row) {
-            return Err(Refusal::Misplaced);
-        }
-        let start = self.step_over(base, row, Way::Backward);
-        Ok(self.seek(filter, base, start, Way::Backward))
+        self.beside(filter, base, row, Way::Backward)
     }
 }

@@ -1,12 +1,11 @@
-use Rattle.std.proofs.Common.{sym, ◌∙◌}
-use Rattle.page.proofs.Slices.{first_more, first_found, first_all}
+use Rattle.std.proofs.Common.{not, nat_lt, rules, tests}
+use Rattle.std.proofs.lemmas.Iterator.{YieldsList-from_slice, YieldsList-from_map}
+use Rattle.std.proofs.lemmas.Iterator.Consumers.{YieldsList-at}
+use Rattle.std.proofs.lemmas.Iterator.Search.{find_from_yields_List}
+use Rattle.page.proofs.Slices.{first_find}
 use Rattle.page.proofs.part.first_from.Goals as goal
 
-pub returns-then-word-index : goal.returns-then-word-index
-returns-then-word-index c = sym (c.loop-word.invariant ∙ first_found c.args.index c.loop-word.word-index c.args.words.now c.loop-word-test.true c.if-word-index.true)
-
-pub loop-word-preserved : goal.loop-word-preserved
-loop-word-preserved c = c.loop-word.invariant ∙ first_more c.args.index c.loop-word.word-index c.args.words.now c.loop-word-test.true c.if-word-index.false
-
 pub returns : goal.returns
-returns c = sym (c.loop-word.invariant ∙ first_all c.args.index c.loop-word.word-index c.args.words.now c.loop-word-test.false)
+returns c =
+    first_find c.args.index c.args.words.now c.find.result
+    (find_from_yields_List (λ x. not (nat_lt x c.args.index)) _ _ _ c.find.ensures.ran (YieldsList-from_map _ (λ x. x) (YieldsList-at c.map.ensures.source (YieldsList-from_slice c.args.words.now cc)) c.map.ensures.closure (λ x r q k. search rules)) (λ x b q k. search (rules, tests)))

@@ -1,14 +1,12 @@
-use Rattle.std.proofs.Common.{length, sym, ap, ◌∙◌, arith}
-use Rattle.std.proofs.lemmas.List.{take_all}
-use Rattle.source.specs.Runs.{last_below}
-use Rattle.page.proofs.Slices.{last_more, last_found}
+use Rattle.std.proofs.Common.{nat_lt, rules, tests}
+use Rattle.std.proofs.lemmas.Iterator.{YieldsList-from_map}
+use Rattle.std.proofs.lemmas.Iterator.Adapters.{YieldsList-from_rev_slice}
+use Rattle.std.proofs.lemmas.Iterator.Consumers.{YieldsList-at}
+use Rattle.std.proofs.lemmas.Iterator.Search.{find_from_yields_List}
+use Rattle.page.proofs.Slices.{last_find}
 use Rattle.page.proofs.part.last_before.Goals as goal
 
-pub loop-k-init : goal.loop-k-init
-loop-k-init c = ap (last_below c.args.index) (sym (take_all (length c.args.words.now) c.args.words.now (omega arith)))
-
-pub returns-then-words-k : goal.returns-then-words-k
-returns-then-words-k c = sym (c.loop-k.invariant ∙ last_found c.args.index c.loop-k.k c.args.words.now c.loop-k-test.true c.loop-k.auto.k c.if-words-k.true)
-
-pub loop-k-preserved : goal.loop-k-preserved
-loop-k-preserved c = c.loop-k.invariant ∙ last_more c.args.index c.loop-k.k c.args.words.now c.loop-k-test.true c.loop-k.auto.k c.if-words-k.false
+pub returns : goal.returns
+returns c =
+    last_find c.args.index c.args.words.now c.find.result
+    (find_from_yields_List (λ x. nat_lt x c.args.index) _ _ _ c.find.ensures.ran (YieldsList-from_map _ (λ x. x) (YieldsList-at c.map.ensures.source (YieldsList-from_rev_slice c.args.words.now cc)) c.map.ensures.closure (λ x r q k. search rules)) (λ x b q k. search (rules, tests)))

@@ -1,8 +1,6 @@
-use Rattle.page.proofs.Drafts.{based, draft_next, draft_next_out}
+use Rattle.std.proofs.Common.{◌∙◌}
+use Rattle.page.proofs.Drafts.{draft_next}
 use Rattle.page.proofs.draft.Draft.next.Goals as goal
 
-pub returns-in-Ok : goal.returns-in-Ok
-returns-in-Ok c = draft_next c.args.self.now c.args.id.0 c.in-Ok.after c.in-Ok.ensures.1
-
-pub returns-in-Err : goal.returns-in-Err
-returns-in-Err c = draft_next_out c.args.self.now c.args.id.0 (λ l. c.in-Err.ensures.1 (based c.args.self.now, l))
+pub returns : goal.returns
+returns c = c.unwrap_or.ensures ∙ draft_next c.args.self.now c.args.id c.next.result c.next.ensures

@@ -1,6 +1,0 @@
-use Rattle.std.proofs.Common.{sym, ◌∙◌}
-use Rattle.source.proofs.Laws.{masked_from}
-use Rattle.source.proofs.masked.MaskedSource.word_start_from.Goals as goal
-
-pub returns : goal.returns
-returns g c = c.word_start_from.ensures ∙ sym (masked_from (g.S.Source.doc c.args.self.now.inner).runs c.args.row.0 c.args.index)

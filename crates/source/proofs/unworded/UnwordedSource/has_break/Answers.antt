@@ -1,6 +1,0 @@
-use Rattle.std.proofs.Common.{sym, ◌∙◌}
-use Rattle.source.proofs.Laws.{unworded_breaks}
-use Rattle.source.proofs.unworded.UnwordedSource.has_break.Goals as goal
-
-pub returns : goal.returns
-returns g c = c.has_break.ensures ∙ sym (unworded_breaks (g.S.Source.doc c.args.self.now.inner).runs c.args.row.0)
