@@ -17,15 +17,13 @@ mod text_calls;
 mod tree_calls;
 
 use crate::command::Command;
-use crate::failure::Mistake;
 use crate::input::Input;
-use crate::reply::{Answer, answer_line, print_answer};
+use crate::reply::{Answer, print_answer};
 use crate::serve::serve_page;
 use crate::strip::Strip;
 use crate::tables::Builder;
 use crate::text_calls::answer_text;
 use crate::tree_calls::answer_judge;
-use rows::node::NodeId;
 use std::alloc::Global;
 
 // The commands that need no page. What no part of the program knows is unknown, or wants a page.
@@ -48,28 +46,22 @@ fn answer(
     }
 }
 
-// The root of `open ROOT`; nothing where a line is another command, or none.
-fn opened_root(line: &[u8]) -> Option<Result<NodeId, Mistake>> {
-    match Command::of(line) {
-        Ok(Some(mut command)) if command.verb == "open" => Some(command.only_row()),
-        _ => None,
-    }
-}
-
 fn main(rt: HostRuntime) -> anyhow::Result<()> {
     let mut input = Input::new(&rt)?;
     let mut tables = Builder::new(rt.alloc());
     let mut strip = Strip::bullets(rt.alloc())?;
-    while let Some(line) = input.next_line()? {
-        match opened_root(line.as_slice()) {
-            Some(Ok(root)) => serve_page(&rt, &mut input, &mut strip, tables.lend(), root)?,
-            Some(Err(mistake)) => print_answer(&rt, Err(mistake.into()))?,
-            None => print_answer(
+    while input.advance()? {
+        match Command::of(input.line()) {
+            Ok(None) => {}
+            Ok(Some(mut command)) if command.verb == "open" => match command.only_row() {
+                Ok(root) => serve_page(&rt, &mut input, &mut strip, tables.lend(), root)?,
+                Err(mistake) => print_answer(&rt, Err(mistake.into()))?,
+            },
+            Ok(Some(mut command)) => print_answer(
                 &rt,
-                answer_line(line.as_slice(), |command| {
-                    answer(rt.alloc(), &mut tables, &mut strip, command)
-                }),
+                answer(rt.alloc(), &mut tables, &mut strip, &mut command),
             )?,
+            Err(mistake) => print_answer(&rt, Err(mistake.into()))?,
         }
     }
     Ok(())

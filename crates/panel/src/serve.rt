@@ -77,21 +77,21 @@ fn serve_reader(
 {
     let mut reader = Reader::open(open.source);
     print_answer(rt, Ok(reader.range().into()))?;
-    while let Some(line) = input.next_line()? {
-        match level_of(line.as_slice()) {
+    while input.advance()? {
+        match level_of(input.line()) {
             Level::Page => print_answer(
                 rt,
-                answer_line(line.as_slice(), |command| {
+                answer_line(input.line(), |command| {
                     answer_reader(rt.alloc(), open, &mut reader, strip, command)
                 }),
             )?,
-            Level::Close if is_alone(line.as_slice()) => {
+            Level::Close if is_alone(input.line()) => {
                 print_answer(rt, Ok(reader.close().into()))?;
                 return Ok(());
             }
             Level::Close => print_answer(rt, Err(Mistake::TooMany.into()))?,
             Level::Tables | Level::Reader => {
-                input.keep(line);
+                input.keep();
                 break;
             }
         }
@@ -116,17 +116,17 @@ pub fn serve_page(
         source: page.layered(),
     };
     print_opened(rt, &open, refusal)?;
-    while let Some(line) = input.next_line()? {
-        match level_of(line.as_slice()) {
+    while input.advance()? {
+        match level_of(input.line()) {
             Level::Tables => {
-                input.keep(line);
+                input.keep();
                 break;
             }
-            Level::Reader if is_alone(line.as_slice()) => serve_reader(rt, input, strip, &open)?,
+            Level::Reader if is_alone(input.line()) => serve_reader(rt, input, strip, &open)?,
             Level::Reader => print_answer(rt, Err(Mistake::TooMany.into()))?,
             Level::Close | Level::Page => print_answer(
                 rt,
-                answer_line(line.as_slice(), |command| {
+                answer_line(input.line(), |command| {
                     answer_page(rt.alloc(), &open, strip, command)
                 }),
             )?,

@@ -1,16 +1,16 @@
 // The roles that a row may have. A table has a number for each, and a greater number is no role.
 ghost use Rattle.std.specs.Prelude.{◌≡◌, ◌<◌, ◌≤◌, ◌↔◌, IsTrue};
-ghost use Rattle.rows.specs.Roles.{Decodes, HoldsText};
+ghost use Rattle.rows.specs.Roles.{code_of, Decodes, HoldsText};
 
 #[derive(Clone, Copy, PartialEq, Eq, Debug)]
 pub enum Role {
-    Other,
-    TextRun,
-    Label,
-    Document,
-    Terminal,
-    PasswordInput,
-    TextInput,
+    Other = 0,
+    TextRun = 1,
+    Label = 2,
+    Document = 3,
+    Terminal = 4,
+    PasswordInput = 5,
+    TextInput = 6,
 }
 
 // A number that stands for no role.
@@ -33,6 +33,15 @@ impl TryFrom<u8> for Role {
             6 => Ok(Role::TextInput),
             _ => Err(UnknownRole(number)),
         }
+    }
+}
+
+// The number that a table has for the role.
+impl From<Role> for u8 {
+    ghost from_gives = { λ role number. number ≡ code_of role };
+
+    fn from(role: Role) -> u8 {
+        role as u8
     }
 }
 

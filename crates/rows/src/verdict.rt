@@ -1,7 +1,7 @@
 // The verdict on tables: their sizes, then each row in turn against each sentence that a sound row
 // keeps, up to the first row at fault.
 ghost use Rattle.std.specs.Prelude.{◌≡◌, ℕ, ◌+◌, ◌<◌, ◌≤◌, length, IfSome, None, ◌↔◌, IsTrue};
-ghost use Rattle.rows.specs.Judge.{rows_in, entries_in, Within, RoleAt, PartsAt, RisingAt, PlacedAt, EntryAt, EnteredAt, GraftedAt, Topmost, LoneAt, ShallowAt, Sound, Sized, Verdict, tree_of};
+ghost use Rattle.rows.specs.Judge.{rows_in, entries_in, Within, RoleAt, PartsAt, RisingAt, PlacedAt, EntryAt, EnteredAt, GraftedAt, Topmost, Rivals, LoneAt, ShallowAt, Sound, Sized, Verdict, tree_of};
 ghost use Rattle.rows.specs.Rows.{count as child_count, par, row as row_at};
 
 use crate::node::*;
@@ -145,12 +145,13 @@ impl<'a> Descendant<'a> {
         self.own.row().tree == other && self.topmost()
     }
 
-    fn lone(&self) -> bool
-        ensures { IsTrue result ↔ LoneAt (rows_in self.now.own.tables) self.now.own.id }
+    // Whether no smaller row is topmost for its tree number. A function of its own in the program too: its
+    // loop is the longest of the judging, and takes more instructions as a part of it.
+    #[inline(never)]
+    fn unrivalled(&self) -> bool
+        ensures { IsTrue result ↔ ((q : ℕ) → q < self.now.own.id → Rivals (rows_in self.now.own.tables) self.now.own.id q → ⊥) }
     {
-        if !self.topmost() {
-            return true;
-        }
+        let tree = self.own.row().tree;
         for id in 0..self.own.id {
             let before = Descendant {
                 own: Candidate {
@@ -158,11 +159,17 @@ impl<'a> Descendant<'a> {
                     id,
                 },
             };
-            if before.rivals(self.own.row().tree) {
+            if before.rivals(tree) {
                 return false;
             }
         }
         true
+    }
+
+    fn lone(&self) -> bool
+        ensures { IsTrue result ↔ LoneAt (rows_in self.now.own.tables) self.now.own.id }
+    {
+        !self.topmost() || self.unrivalled()
     }
 
     fn shallow(&self) -> bool

@@ -44,6 +44,7 @@ impl<'a> Draft<'a> {
     }
 
     // What the tables have of the row.
+    #[inline(always)]
     pub(crate) fn parts(&self, id: NodeId) -> Parts<'a>
         ensures { PartsAt (sheet_of self.now) id.0 result }
     {

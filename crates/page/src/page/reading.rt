@@ -11,7 +11,9 @@ use source::source::Source;
 use source::strip::part;
 
 impl<'a> Page<'a> {
-    // What the page has of a run; the blank page's row 0 has no characters.
+    // What the page has of a run; the blank page's row 0 has no characters. Inlined, as `Draft::parts` is, so
+    // that each call cuts out of the tables only what it asks for.
+    #[inline(always)]
     fn parts(&self, row: NodeId) -> Option<Parts<'a>>
         ensures { PartsOf (page_doc self.now).runs row.0 result }
     {

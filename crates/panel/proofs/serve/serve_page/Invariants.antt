@@ -2,8 +2,8 @@ use Rattle.std.proofs.Common.{◌≤◌}
 use Rattle.panel.specs.Lines.{lines_left}
 use Rattle.panel.proofs.serve.serve_page.Given as goal
 
-abbrev pub invariant-loop-line : goal.invariant-loop-line
-invariant-loop-line g l = lines_left l.input ≤ lines_left l.fn.input
+abbrev pub invariant-loop-input : goal.invariant-loop-input
+invariant-loop-input g l = lines_left l.input ≤ lines_left l.fn.input
 
-abbrev pub decreases-loop-line : goal.decreases-loop-line
-decreases-loop-line g l = lines_left l.input
+abbrev pub decreases-loop-input : goal.decreases-loop-input
+decreases-loop-input g l = lines_left l.input
